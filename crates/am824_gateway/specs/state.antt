@@ -1,4 +1,5 @@
 -- Only private functions and proofs use these definitions.
-pub mod Kept
 pub mod Cutting
+pub mod Kept
+pub mod Noting
 pub mod Streams

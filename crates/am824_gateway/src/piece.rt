@@ -135,7 +135,6 @@ pub(crate) fn cut(
     ensures cuts { CutsBatch to shape batch.now block pieces.new.items result.0 result.1 }
     ensures capacity { vec_capacity pieces.old ≤ vec_capacity pieces.new }
 {
-    pieces.clear();
     if is_one_piece(to, shape, batch) {
         cut_once(pieces, to, shape, batch, block)
     } else {
@@ -143,16 +142,16 @@ pub(crate) fn cut(
     }
 }
 
-/// Cuts a batch that is one piece.
+/// Replaces `pieces` by the only piece of a batch.
 fn cut_once(pieces: &mut Vec<Piece>, to: To, shape: Shape, batch: &Batch, block: u8) -> (u8, bool)
     requires room { 65535 ≤ vec_capacity pieces.old }
-    requires none { pieces.old.items ≡ [] }
     requires shape { IsShape shape }
     requires one { IsOnePiece to shape batch.now }
     ensures cuts { CutsBatch to shape batch.now block pieces.new.items result.0 result.1 }
     ensures capacity { vec_capacity pieces.old ≤ vec_capacity pieces.new }
 {
     let count = batch.count;
+    pieces.clear();
     push(
         pieces,
         Piece {
@@ -165,7 +164,8 @@ fn cut_once(pieces: &mut Vec<Piece>, to: To, shape: Shape, batch: &Batch, block:
     (next, is_late_with(false, batch.instant(0)))
 }
 
-/// Cuts any batch. Computes the instant of each sample from the instant of the previous sample.
+/// Replaces `pieces` by the pieces of any batch. Computes the instant of each sample from the instant of the previous
+/// sample.
 fn cut_by_instants(
     pieces: &mut Vec<Piece>,
     to: To,
@@ -174,7 +174,6 @@ fn cut_by_instants(
     block: u8,
 ) -> (u8, bool)
     requires room { 65535 ≤ vec_capacity pieces.old }
-    requires none { pieces.old.items ≡ [] }
     requires shape { IsShape shape }
     ensures cuts { CutsBatch to shape batch.now block pieces.new.items result.0 result.1 }
     ensures capacity { vec_capacity pieces.old ≤ vec_capacity pieces.new }
@@ -184,6 +183,7 @@ fn cut_by_instants(
     let mut instant = Instant::first(batch);
     let mut next = block;
     let mut late = false;
+    pieces.clear();
     while instant.j < batch.count {
         let first = instant.j;
         late = is_late_with(late, instant.nanoseconds);

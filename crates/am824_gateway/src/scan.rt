@@ -1,8 +1,9 @@
 //! What is checked in a capture before any of it is converted.
 
-ghost use Rattle.std.specs.Prelude.{◌≡◌, ◌≤◌, ◌++◌, ◌∷◌, [], ℕ, suc, List, length, None, Some, IfSome, IfErr, OnOk};
+ghost use Rattle.std.specs.Prelude.{◌≡◌, ◌≤◌, ◌++◌, ◌∷◌, [], ℕ, suc, List, length, Some, IfSome, IfErr, OnOk};
 ghost use Rattle.pcap_frames.specs.Capture.{Record};
-ghost use Rattle.am824_gateway.specs.Scan.{HasScanned, IsShape, content_fault, fault_rows, first_fault, first_of, other_rate, shape_after, shape_in, shape_of};
+ghost use Rattle.am824_gateway.specs.Scan.{HasScanned, IsShape, fault_rows, first_fault, first_of, other_rate, shape_in, shape_of};
+ghost use Rattle.am824_gateway.specs.state.Noting.{NotesSamples};
 
 use crate::content::{Content, Samples, content_of};
 use crate::rates::fdf_of;
@@ -133,10 +134,7 @@ impl Scan {
     /// Looks at a packet of samples.
     fn note_samples(&mut self, samples: &Samples) -> Result<(), ScanFault>
         requires { 1 ≤ samples.now.channels }
-        ensures kept { (self.new.to ≡ self.old.to) × (self.new.stream ≡ self.old.stream) }
-        ensures shape { OnOk result (self.new.shape ≡ shape_after self.old.shape (Content.Audio samples.now)) }
-        ensures none { OnOk result (content_fault self.old.to self.old.shape (Content.Audio samples.now) ≡ None) }
-        ensures fault { IfErr result (λ fault. content_fault self.old.to self.old.shape (Content.Audio samples.now) ≡ Some fault) }
+        ensures { NotesSamples self.old self.new samples.now result }
     {
         let first = self.shape.unwrap_or(samples.shape());
         if let Some(fault) = fault_of(self.to, first, samples) {

@@ -1,5 +1,6 @@
 -- Lines that are printed one after the other.
-use Rattle.std.proofs.Common.{◌≡◌, ℕ, zero, suc, ◌+◌, ◌-◌, ◌<◌, List, [], ◌∷◌, ◌++◌, length, take, drop, flat_map, get_or, arith, refl, sym, ap, ◌∙◌}
+use Rattle.std.proofs.Common.{◌≡◌, ℕ, zero, suc, ◌+◌, ◌-◌, ◌*◌, ◌/◌, ◌<◌, List, [], ◌∷◌, ◌++◌, length, take, drop, flat_map, get_or, arith, refl, sym, ap, ◌∙◌, w64, to_z, of_z}
+use Rattle.std.proofs.lemmas.Int.{ints}
 use Rattle.std.proofs.lemmas.List.{append-nil}
 use Rattle.std.proofs.lemmas.Grind.{flat_map-append}
 use Rattle.std.proofs.Math.Seq.{split_at}
@@ -7,6 +8,14 @@ use Rattle.std.specs.List.{range_with_len}
 use Rattle.std.specs.Prelude.{IsErr, Result, Ok, Err}
 use Rattle.avtp_base.specs.declared.failed.Failed.{Failed}
 use Rattle.avtp_base.specs.States.{SinkState}
+use Rattle.hex.specs.Hex.{encode_lower}
+use Rattle.sample_schedule.specs.Batches.{Presented, sample_instant}
+use Rattle.sample_schedule.specs.declared.instants.Instant.{Instant}
+use Rattle.time_unfold.specs.Time.{IsInstant}
+use Rattle.avtp_text.specs.Listen.{due_text, place_text, sample_line}
+use Rattle.avtp_text.specs.Pieces.{newline}
+use Rattle.avtp_text.specs.SampleLines.{SamplePacket}
+use Rattle.avtp_text.specs.state.SampleLines.{packet_of}
 use Rattle.avtp_text.specs.Written.{PrintsPart}
 use Rattle.avtp_text.proofs.Printing.{part_as, part_failed, part_then}
 
@@ -39,6 +48,16 @@ lines_failed line n j lt err first next =
     let split : flat_map line (range_with_len 0 n) ≡ flat_map line (range_with_len 0 j) ++ (line j ++ flat_map line (range_with_len (j + 1) (n - j - 1))) =
     ap (flat_map line) (numbers n j lt) ∙ flat_map-append line (range_with_len 0 j) (j ∷ range_with_len (j + 1) (n - j - 1)) in
     part_as _ _ (sym split) (part_then _ _ first (part_failed (line j) _ err next))
+
+-- The line of sample `j` of a batch is what its instant, its packet and its part of the batch's bytes print.
+pub sample_as : (batch : Presented) (i : Instant) (j size : ℕ) (packet : SamplePacket) (all : List ℕ)
+    → i.j ≡ j → i.nanoseconds ≡ sample_instant batch i.j → IsInstant (sample_instant batch j) → packet ≡ packet_of batch size → all ≡ batch.bytes → size ≡ length batch.bytes / batch.count
+    → due_text (to_z w64 (of_z w64 i.nanoseconds)) packet.frame ++ place_text packet.seq j ++ encode_lower (take (j * size + size - j * size) (drop (j * size) all)) ++ newline ≡ sample_line batch j
+sample_as batch i j size packet all number at timely named whole equal =
+    let len : j * size + size - j * size ≡ size = omega arith in
+    let due : i.nanoseconds ≡ sample_instant batch j = at ∙ ap (sample_instant batch) number in
+    let same : to_z w64 (of_z w64 (sample_instant batch j)) ≡ sample_instant batch j = omega (arith, ints, timely.from, timely.to) in
+    rw (len, due, same, named, whole, equal) refl
 
 -- ---- the lines of a list
 

@@ -2,7 +2,7 @@
 
 ghost use Rattle.std.specs.Prelude.{◌≡◌, ◌+◌, ◌-◌, ◌≤◌, ◌++◌, length, drop};
 ghost use Rattle.aaf_format.specs.Aaf.{aaf_shape};
-ghost use Rattle.avtp_text.specs.state.AafLines.{IsEnd, aaf_start, end_of};
+ghost use Rattle.avtp_text.specs.state.AafLines.{IsEndAlone, IsEnd, end_of};
 ghost use Rattle.avtp_text.specs.Pieces.{id_text, newline};
 ghost use Rattle.avtp_text.specs.Show.{aaf_content, frame_line};
 
@@ -53,6 +53,7 @@ impl AafEnd {
 }
 
 /// Puts the end of a line before the newline.
+#[tactic(auto, using(crate::proofs::Names::format_fits))]
 fn prepend_end(line: &mut Line, end: &AafEnd)
     requires { line.old ≡ newline }
     ensures text { IsEnd end.now line.new }
@@ -99,21 +100,6 @@ impl IdText {
             *self = IdText::new(id);
         }
     }
-}
-
-/// Writes, before the end of a line, the part that changes with each packet.
-#[inline(always)]
-fn prepend_start(line: &mut Line, id: &IdText, view: &AafView<'_>)
-    requires id { id.now.id ≡ view.now.header.stream_id }
-    requires room { 52 + length line.old ≤ LONGEST }
-    ensures text { line.new ≡ aaf_start (aaf_shape view.now) ++ line.old }
-    ensures len { length line.new ≤ 52 + length line.old }
-{
-    line.prepend_u32(" ts ", view.header.timestamp);
-    line.prepend_u32(" seq ", view.header.seq as u32);
-    line.prepend_bytes(&id.digits);
-    line.prepend("id ");
-    line.prepend("aaf ");
 }
 
 /// The line of an AAF packet. The end of the line is kept for the next packet. If the next packet's line has the same
@@ -169,9 +155,7 @@ impl AafLine {
 
     #[inline(never)]
     fn write_end(&mut self, end: AafEnd)
-        ensures text { IsEnd end self.new.line }
-        ensures whole { self.new.len ≡ length self.new.line }
-        ensures end { self.new.end ≡ end }
+        ensures { IsEndAlone self.new.line self.new.len self.new.end end }
     {
         self.line.restart();
         prepend_end(&mut self.line, &end);
@@ -182,9 +166,7 @@ impl AafLine {
     /// Keeps only the end of the line. If the end is not the text of `end`, writes the end anew.
     #[inline(always)]
     fn leave_end(&mut self, end: AafEnd)
-        ensures text { IsEnd end self.new.line }
-        ensures whole { self.new.len ≡ length self.new.line }
-        ensures end { self.new.end ≡ end }
+        ensures { IsEndAlone self.new.line self.new.len self.new.end end }
     {
         if self.end == end {
             self.line.keep_last(self.len);
@@ -200,7 +182,11 @@ impl AafLine {
     {
         self.leave_end(AafEnd::of(view));
         self.id.set(view.header.stream_id);
-        prepend_start(&mut self.line, &self.id, view);
+        self.line.prepend_u32(" ts ", view.header.timestamp);
+        self.line.prepend_u32(" seq ", view.header.seq as u32);
+        self.line.prepend_bytes(&self.id.digits);
+        self.line.prepend("id ");
+        self.line.prepend("aaf ");
         prepend_frame(&mut self.line, number, arrival);
     }
 }

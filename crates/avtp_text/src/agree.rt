@@ -2,6 +2,7 @@
 
 ghost use Rattle.std.specs.Prelude.{◌≡◌, ◌+◌, ◌≤◌, ◌++◌, length};
 ghost use Rattle.avtp_text.specs.Agree.{differ_at_line, differ_bytes_line, differ_count_line, differ_start, end_agree_line};
+ghost use Rattle.avtp_text.specs.state.Lines.{Prepends};
 ghost use Rattle.avtp_text.specs.Written.{Prints};
 
 use crate::buffer::Text;
@@ -22,8 +23,7 @@ pub struct PacketPair {
 #[tactic(auto, unfolding(crate::specs::Agree::differ_start))]
 fn prepend_pair(line: &mut Line, pair: PacketPair)
     requires { 70 + length line.old ≤ LONGEST }
-    ensures text { line.new ≡ differ_start pair.frame_a pair.frame_b pair.seq ++ line.old }
-    ensures len { length line.new ≤ 70 + length line.old }
+    ensures { Prepends line.old line.new (differ_start pair.frame_a pair.frame_b pair.seq) 70 }
 {
     line.prepend(" ");
     line.prepend_u32(" seq ", u32::from(pair.seq));

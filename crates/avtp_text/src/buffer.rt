@@ -1,16 +1,13 @@
 //! The one buffer through which all text goes.
 
-ghost use Rattle.std.specs.Prelude.{◌≡◌, ◌+◌, ◌≤◌, ◌<◌, [], ◌++◌, length, take, OnOk, IfOk};
-ghost use Rattle.aaf_format.specs.Aaf.{aaf_shape};
-ghost use Rattle.avtp_base.specs.Told.{Appends, Keeps};
-ghost use Rattle.avtp_base.specs.Faults.{IsCounted, Rose};
-ghost use Rattle.avtp_text.specs.Show.{aaf_content, frame_line};
+ghost use Rattle.std.specs.Prelude.{◌≡◌, ◌+◌, ◌≤◌, [], length, OnOk, IfOk};
+ghost use Rattle.avtp_base.specs.Told.{Keeps};
+ghost use Rattle.avtp_base.specs.Faults.{IsCounted};
+ghost use Rattle.avtp_text.specs.state.Moves.{Moves, TakesFront};
 ghost use Rattle.avtp_text.specs.Written.{written, Grows, Prints};
 
 use crate::aaf_line::AafLine;
-use crate::line::LONGEST;
 use crate::sample_line::SampleLine;
-use aaf_format::AafView;
 use avtp_base::{Buffer, Failed, NoMemory};
 use avtp_files::Sink;
 use std::alloc::Global;
@@ -30,7 +27,7 @@ pub const ROOM: usize = Buffer::ROOM;
 #[derive(Drop)]
 pub struct Text {
     pub(crate) buffer: Buffer,
-    aaf: AafLine,
+    pub(crate) aaf: AafLine,
     pub(crate) sample: SampleLine,
 }
 
@@ -45,11 +42,7 @@ impl Model for Text {
 /// Writes bytes to the sink until the sink has taken all of them or fails. Returns how many bytes the sink took.
 #[tactic(auto, using(crate::proofs::Moved::taken_none, crate::proofs::Moved::taken_more))]
 fn write_out<S: Sink>(out: &mut S, bytes: &[u8]) -> usize
-    ensures within { result ≤ length bytes.now }
-    ensures taken { Appends (S.state out.old).held (S.state out.new).held (take result bytes.now) }
-    ensures never_falls { (S.state out.old).faults ≤ (S.state out.new).faults }
-    ensures whole { result ≡ length bytes.now → (S.state out.new).faults ≡ (S.state out.old).faults }
-    ensures failed { result < length bytes.now → Rose (S.state out.old).faults (S.state out.new).faults }
+    ensures { TakesFront (S.state out.old) (S.state out.new) bytes.now result }
 {
     let mut taken = 0;
     while taken < bytes.len() {
@@ -65,10 +58,8 @@ fn write_out<S: Sink>(out: &mut S, bytes: &[u8]) -> usize
 #[tactic(auto, using(crate::proofs::Moved::written_moved, crate::proofs::Growth::grows_by))]
 #[inline(never)]
 fn flush<S: Sink>(buffer: &mut Buffer, out: &mut S) -> Result<(), Failed>
-    ensures written { Keeps (written (S.state out.old).held buffer.old) (written (S.state out.new).held buffer.new) }
+    ensures moves { Moves (S.state out.old) (S.state out.new) buffer.old buffer.new result }
     ensures none_waits { OnOk result (buffer.new ≡ []) }
-    ensures grows { Grows (S.state out.old).held (S.state out.new).held }
-    ensures counted { IsCounted (S.state out.old).faults (S.state out.new).faults result }
 {
     let waiting = buffer.waiting().len();
     let taken = write_out(out, buffer.waiting());
@@ -84,10 +75,8 @@ fn flush<S: Sink>(buffer: &mut Buffer, out: &mut S) -> Result<(), Failed>
 #[inline(always)]
 pub(crate) fn make_room<S: Sink>(buffer: &mut Buffer, out: &mut S, len: usize) -> Result<(), Failed>
     requires { len ≤ ROOM }
-    ensures written { Keeps (written (S.state out.old).held buffer.old) (written (S.state out.new).held buffer.new) }
+    ensures moves { Moves (S.state out.old) (S.state out.new) buffer.old buffer.new result }
     ensures room { OnOk result (length buffer.new + len ≤ ROOM) }
-    ensures grows { Grows (S.state out.old).held (S.state out.new).held }
-    ensures counted { IsCounted (S.state out.old).faults (S.state out.new).faults result }
 {
     if buffer.room() < len {
         return flush(buffer, out);
@@ -118,45 +107,14 @@ impl Text {
         flush(&mut self.buffer, out)
     }
 
-    /// Makes room in the buffer for `len` bytes.
-    #[inline(always)]
-    pub(crate) fn make_room<S: Sink>(&mut self, out: &mut S, len: usize) -> Result<(), Failed>
-        requires { len ≤ ROOM }
-        ensures written { Keeps (written (S.state out.old).held self.old) (written (S.state out.new).held self.new) }
-        ensures room { OnOk result (length self.new + len ≤ ROOM) }
-        ensures grows { Grows (S.state out.old).held (S.state out.new).held }
-        ensures counted { IsCounted (S.state out.old).faults (S.state out.new).faults result }
-    {
-        make_room(&mut self.buffer, out, len)
-    }
-
-    /// Appends a piece of text to the buffer, which must have room for the piece.
-    #[inline(always)]
-    pub(crate) fn push(&mut self, piece: &[u8])
-        requires { length self.old + length piece.now ≤ ROOM }
-        ensures { self.new ≡ self.old ++ piece.now }
-    {
-        self.buffer.push(piece);
-    }
-
-    /// Appends the line of an AAF packet to the buffer, which must have room for a line.
-    #[inline(always)]
-    pub(crate) fn push_aaf(&mut self, number: u64, arrival: i64, view: &AafView<'_>)
-        requires { length self.old + LONGEST ≤ ROOM }
-        ensures { self.new ≡ self.old ++ frame_line number arrival (aaf_content (aaf_shape view.now)) }
-    {
-        self.aaf.write(number, arrival, view);
-        self.buffer.push(self.aaf.as_slice());
-    }
-
     /// Appends a piece of text of at most [`ROOM`] bytes: all of it, or nothing if the sink fails.
     #[inline(always)]
     pub fn print<S: Sink>(&mut self, out: &mut S, piece: &[u8]) -> Result<(), Failed>
         requires { length piece.now ≤ ROOM }
         ensures { Prints (S.state out.old) (S.state out.new) self.old self.new result piece.now }
     {
-        self.make_room(out, piece.len())?;
-        self.push(piece);
+        make_room(&mut self.buffer, out, piece.len())?;
+        self.buffer.push(piece);
         Ok(())
     }
 }

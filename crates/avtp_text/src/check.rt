@@ -2,9 +2,10 @@
 
 ghost use Rattle.std.specs.Prelude.{◌≡◌, ◌+◌, ◌*◌, ◌≤◌, ◌++◌, flat_map, length};
 ghost use Rattle.avtp_text.specs.Check.{counted, end_check_line, finding_start, findings_lines, found, malformed_line, packet_line, packet_start};
+ghost use Rattle.avtp_text.specs.state.Lines.{AppendsUpTo, Prepends};
 ghost use Rattle.avtp_text.specs.Written.{Prints};
 
-use crate::buffer::{ROOM, Text};
+use crate::buffer::{ROOM, Text, make_room};
 use crate::line::{LONGEST, Line};
 use avtp_base::{Failed, Refusal};
 use avtp_files::Sink;
@@ -20,8 +21,7 @@ const FINDINGS: usize = 5 * FINDING;
 #[tactic(auto, unfolding(crate::specs::Check::finding_start))]
 fn prepend_finding(line: &mut Line, number: u64)
     requires { 35 + length line.old ≤ LONGEST }
-    ensures text { line.new ≡ finding_start number ++ line.old }
-    ensures len { length line.new ≤ 35 + length line.old }
+    ensures { Prepends line.old line.new (finding_start number) 35 }
 {
     line.prepend(" ");
     line.prepend_u64("finding frame ", number);
@@ -31,8 +31,7 @@ fn prepend_finding(line: &mut Line, number: u64)
 #[tactic(auto, unfolding(crate::specs::Check::packet_start))]
 fn prepend_packet(line: &mut Line, number: u64, id: u64)
     requires { 55 + length line.old ≤ LONGEST }
-    ensures text { line.new ≡ packet_start number id ++ line.old }
-    ensures len { length line.new ≤ 55 + length line.old }
+    ensures { Prepends line.old line.new (packet_start number id) 55 }
 {
     line.prepend(" ");
     line.prepend_id("id ", id);
@@ -44,14 +43,13 @@ impl Text {
     fn push_found(&mut self, number: u64, id: u64, is_found: bool, name: &str)
         requires short { length name.now ≤ 8 }
         requires room { length self.old + FINDING ≤ ROOM }
-        ensures text { self.new ≡ self.old ++ flat_map (packet_line number id) (found is_found name.now) }
-        ensures len { length self.new ≤ length self.old + FINDING }
+        ensures { AppendsUpTo self.old self.new (flat_map (packet_line number id) (found is_found name.now)) FINDING }
     {
         if is_found {
             let mut line = Line::new();
             line.prepend(name);
             prepend_packet(&mut line, number, id);
-            self.push(line.as_slice());
+            self.buffer.push(line.as_slice());
         }
     }
 
@@ -60,14 +58,13 @@ impl Text {
     fn push_counted(&mut self, number: u64, id: u64, count: Option<u32>, label: &str)
         requires short { length label.now ≤ 8 }
         requires room { length self.old + FINDING ≤ ROOM }
-        ensures text { self.new ≡ self.old ++ flat_map (packet_line number id) (counted count label.now) }
-        ensures len { length self.new ≤ length self.old + FINDING }
+        ensures { AppendsUpTo self.old self.new (flat_map (packet_line number id) (counted count label.now)) FINDING }
     {
         if let Some(count) = count {
             let mut line = Line::new();
             line.prepend_u32(label, count);
             prepend_packet(&mut line, number, id);
-            self.push(line.as_slice());
+            self.buffer.push(line.as_slice());
         }
     }
 
@@ -93,7 +90,7 @@ impl Text {
     ) -> Result<(), Failed>
         ensures { Prints (S.state out.old) (S.state out.new) self.old self.new result (findings_lines number id findings.now) }
     {
-        self.make_room(out, FINDINGS)?;
+        make_room(&mut self.buffer, out, FINDINGS)?;
         self.push_findings(number, id, findings);
         Ok(())
     }

@@ -4,6 +4,7 @@ ghost use Rattle.std.specs.Prelude.{◌≡◌, ◌+◌, ◌-◌, ◌*◌, ◌<�
 ghost use Rattle.std.specs.Fmt.{signed_decimal};
 ghost use Rattle.hex.specs.Hex.{encode_lower};
 ghost use Rattle.avtp_text.specs.Pieces.{newline, id_text, flag_text, refusal_text};
+ghost use Rattle.avtp_text.specs.state.Lines.{Prepends};
 
 use crate::pairs::{write_bytes, write_hex};
 use avtp_base::Refusal;
@@ -94,8 +95,7 @@ impl Line {
     #[inline(always)]
     pub fn prepend_bytes(&mut self, piece: &[u8])
         requires { length piece.now + length self.old ≤ LONGEST }
-        ensures text { self.new ≡ piece.now ++ self.old }
-        ensures len { length self.new ≡ length piece.now + length self.old }
+        ensures { Prepends self.old self.new piece.now (length piece.now) }
     {
         let start = self.start - piece.len();
         self.scratch[start..self.start].copy_from_slice(piece);
@@ -106,8 +106,7 @@ impl Line {
     #[inline(always)]
     pub fn prepend(&mut self, piece: &str)
         requires { length piece.now + length self.old ≤ LONGEST }
-        ensures text { self.new ≡ piece.now ++ self.old }
-        ensures len { length self.new ≡ length piece.now + length self.old }
+        ensures { Prepends self.old self.new piece.now (length piece.now) }
     {
         let start = self.start - piece.len();
         write_bytes(piece.as_bytes(), &mut self.scratch[start..self.start]);
@@ -117,8 +116,7 @@ impl Line {
     #[inline(always)]
     fn prepend_decimal(&mut self, number: u64)
         requires { length (decimal number) + length self.old ≤ LONGEST }
-        ensures text { self.new ≡ decimal number ++ self.old }
-        ensures len { length self.new ≡ length (decimal number) + length self.old }
+        ensures { Prepends self.old self.new (decimal number) (length (decimal number)) }
     {
         self.start = itoa::write_digits(number, &mut self.scratch, self.start);
     }
@@ -128,8 +126,7 @@ impl Line {
     #[inline(always)]
     pub fn prepend_u64(&mut self, label: &str, number: u64)
         requires { length label.now + 20 + length self.old ≤ LONGEST }
-        ensures text { self.new ≡ label.now ++ decimal number ++ self.old }
-        ensures len { length self.new ≤ length label.now + 20 + length self.old }
+        ensures { Prepends self.old self.new (label.now ++ decimal number) (length label.now + 20) }
     {
         self.prepend_decimal(number);
         self.prepend(label);
@@ -140,8 +137,7 @@ impl Line {
     #[inline(always)]
     pub fn prepend_u32(&mut self, label: &str, number: u32)
         requires { length label.now + 10 + length self.old ≤ LONGEST }
-        ensures text { self.new ≡ label.now ++ decimal number ++ self.old }
-        ensures len { length self.new ≤ length label.now + 10 + length self.old }
+        ensures { Prepends self.old self.new (label.now ++ decimal number) (length label.now + 10) }
     {
         self.prepend_decimal(number as u64);
         self.prepend(label);
@@ -152,8 +148,7 @@ impl Line {
     #[inline(always)]
     pub fn prepend_i64(&mut self, label: &str, number: i64)
         requires { length label.now + 21 + length self.old ≤ LONGEST }
-        ensures text { self.new ≡ label.now ++ signed_decimal number ++ self.old }
-        ensures len { length self.new ≤ length label.now + 21 + length self.old }
+        ensures { Prepends self.old self.new (label.now ++ signed_decimal number) (length label.now + 21) }
     {
         self.prepend_decimal(number.unsigned_abs());
         if number < 0 {
@@ -166,8 +161,7 @@ impl Line {
     #[inline(always)]
     pub fn prepend_flag(&mut self, label: &str, flag: bool)
         requires { length label.now + 1 + length self.old ≤ LONGEST }
-        ensures text { self.new ≡ label.now ++ flag_text flag ++ self.old }
-        ensures len { length self.new ≡ length label.now + 1 + length self.old }
+        ensures { Prepends self.old self.new (label.now ++ flag_text flag) (length label.now + 1) }
     {
         self.prepend(if flag { "1" } else { "0" });
         self.prepend(label);
@@ -178,8 +172,7 @@ impl Line {
     #[inline(always)]
     pub fn prepend_id(&mut self, label: &str, id: u64)
         requires { length label.now + 16 + length self.old ≤ LONGEST }
-        ensures text { self.new ≡ label.now ++ id_text id ++ self.old }
-        ensures len { length self.new ≡ length label.now + 16 + length self.old }
+        ensures { Prepends self.old self.new (label.now ++ id_text id) (length label.now + 16) }
     {
         self.prepend_hex(&id.to_be_bytes());
         self.prepend(label);
@@ -189,8 +182,7 @@ impl Line {
     #[inline(always)]
     pub fn prepend_hex(&mut self, bytes: &[u8])
         requires { 2 * length bytes.now + length self.old ≤ LONGEST }
-        ensures text { self.new ≡ encode_lower bytes.now ++ self.old }
-        ensures len { length self.new ≡ 2 * length bytes.now + length self.old }
+        ensures { Prepends self.old self.new (encode_lower bytes.now) (2 * length bytes.now) }
     {
         let start = self.start - 2 * bytes.len();
         write_hex(bytes, &mut self.scratch[start..self.start]);
@@ -202,8 +194,7 @@ impl Line {
     #[tactic(auto, using(crate::proofs::Names::name_fits), unfolding(crate::specs::Pieces::refusal_text))]
     pub fn prepend_refusal(&mut self, refusal: Refusal)
         requires { 48 + length self.old ≤ LONGEST }
-        ensures text { self.new ≡ refusal_text refusal ++ self.old }
-        ensures len { length self.new ≤ 48 + length self.old }
+        ensures { Prepends self.old self.new (refusal_text refusal) 48 }
     {
         if refusal.short {
             self.prepend(" short");

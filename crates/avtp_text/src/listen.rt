@@ -7,11 +7,12 @@ ghost use Rattle.time_unfold.specs.Time.{IsInstant};
 ghost use Rattle.sample_schedule.specs.Instants.{IsInstantOf};
 ghost use Rattle.avtp_text.specs.Pieces.{newline};
 ghost use Rattle.avtp_text.specs.state.SampleLines.{packet_of};
+ghost use Rattle.avtp_text.specs.state.Lines.{Prepends};
 ghost use Rattle.avtp_text.specs.Written.{Prints, PrintsPart};
 
 use crate::buffer::{ROOM, Text, make_room};
 use crate::line::{LONGEST, Line};
-use crate::sample_line::{SHORT, SampleLine, prepend_place};
+use crate::sample_line::{SHORT, SampleLine};
 use avtp_base::{Buffer, Failed};
 use avtp_files::Sink;
 use listener::Counts;
@@ -20,23 +21,25 @@ use sample_schedule::{Batch, Instant, Reason, Shown};
 /// If a sample is too long for a [`Line`], the bytes of the sample are printed in pieces of this many bytes.
 const PIECE: usize = 2_048;
 
-/// Prepends the presentation time of a sample and the number of its packet's frame to the line.
-#[tactic(auto, unfolding(crate::specs::Listen::due_text))]
-#[inline(always)]
-fn prepend_due(line: &mut Line, instant: i64, frame: u64)
-    requires { 51 + length line.old ≤ LONGEST }
-    ensures text { line.new ≡ due_text instant frame ++ line.old }
+/// The start of a sample's line: all of the line before the sample's bytes.
+#[tactic(auto, unfolding(crate::specs::Listen::due_text, crate::specs::Listen::place_text))]
+fn sample_start(instant: i64, frame: u64, seq: u8, j: u32) -> Line
+    ensures { result ≡ due_text instant frame ++ place_text seq j }
 {
+    let mut line = Line::blank();
+    line.prepend(" ");
+    line.prepend_u32(" sample ", j);
+    line.prepend_u32(" seq ", seq as u32);
     line.prepend_u64(" frame ", frame);
     line.prepend_i64("at ", instant);
+    line
 }
 
 /// Prepends the reason for a flag to the line.
 #[tactic(auto, using(crate::proofs::Names::name_fits))]
 fn prepend_reason(line: &mut Line, reason: Reason)
     requires { 40 + length line.old ≤ LONGEST }
-    ensures text { line.new ≡ reason_text reason ++ line.old }
-    ensures len { length line.new ≤ 40 + length line.old }
+    ensures { Prepends line.old line.new (reason_text reason) 40 }
 {
     match reason {
         Reason::Malformed(field) => {
@@ -76,28 +79,6 @@ fn print_sample<S: Sink>(
     Ok(())
 }
 
-/// Appends the line of a sample of a batch to a buffer. The kept line in `line` is for the batch's packet.
-#[inline(always)]
-fn short_sample<S: Sink>(
-    buffer: &mut Buffer,
-    line: &mut SampleLine,
-    out: &mut S,
-    batch: &Batch,
-    instant: Instant,
-    bytes: &[u8],
-) -> Result<(), Failed>
-    requires short { length bytes.now ≤ SHORT }
-    requires inside { instant.j < batch.now.count }
-    requires bytes { bytes.now ≡ sample_bytes batch.now instant.j }
-    requires instant { IsInstantOf instant batch.now }
-    requires timely { IsInstant instant.nanoseconds }
-    requires packet { line.old ≡ packet_of batch.now (length bytes.now) }
-    ensures prints { PrintsPart (S.state out.old) (S.state out.new) buffer.old buffer.new result (sample_line batch.now instant.j) }
-    ensures packet { line.new ≡ line.old }
-{
-    print_sample(buffer, line, out, instant.nanoseconds, instant.j, bytes)
-}
-
 /// Appends the lines of a batch to a buffer. Each sample is short enough that its line fits a [`Line`].
 fn short_samples<S: Sink>(
     buffer: &mut Buffer,
@@ -115,12 +96,12 @@ fn short_samples<S: Sink>(
     let mut instant = Instant::first(batch);
     for j in 0..batch.count {
         let start = j as usize * size;
-        short_sample(
+        print_sample(
             buffer,
             line,
             out,
-            batch,
-            instant,
+            instant.nanoseconds,
+            j,
             &bytes[start..start + size],
         )?;
         instant.next(batch);
@@ -222,10 +203,7 @@ impl Text {
     ) -> Result<(), Failed>
         ensures { PrintsPart (S.state out.old) (S.state out.new) self.old self.new result (due_text instant frame ++ place_text seq j ++ encode_lower bytes.now ++ newline) }
     {
-        let mut line = Line::blank();
-        prepend_place(&mut line, seq, j);
-        prepend_due(&mut line, instant, frame);
-        self.print(out, line.as_slice())?;
+        self.print(out, sample_start(instant, frame, seq, j).as_slice())?;
         self.print_hex(out, bytes)?;
         self.print(out, b"\n")
     }

@@ -52,29 +52,6 @@ fn write_hexadecimal_pair(byte: u8, out: &mut [u8], at: usize)
     out[at + 1] = low;
 }
 
-/// Writes the hexadecimal digits of four bytes.
-#[inline(always)]
-fn write_hex_of_four(bytes: &[u8], out: &mut [u8])
-    requires four { length bytes.now ≡ 4 }
-    requires room { length out.old ≡ 8 }
-    ensures { out.new ≡ encode_lower bytes.now }
-{
-    write_hexadecimal_pair(bytes[0], out, 0);
-    write_hexadecimal_pair(bytes[1], out, 2);
-    write_hexadecimal_pair(bytes[2], out, 4);
-    write_hexadecimal_pair(bytes[3], out, 6);
-}
-
-#[inline(always)]
-fn write_hex_of_each(bytes: &[u8], out: &mut [u8])
-    requires { length out.old ≡ 2 * length bytes.now }
-    ensures { out.new ≡ encode_lower bytes.now }
-{
-    for i in 0..bytes.len() {
-        write_hexadecimal_pair(bytes[i], out, 2 * i);
-    }
-}
-
 /// Writes the lower-case hexadecimal digits of bytes. Most samples have two channels of two bytes; the digits of these
 /// four bytes need no loop.
 #[inline(always)]
@@ -83,9 +60,14 @@ pub fn write_hex(bytes: &[u8], out: &mut [u8])
     ensures { out.new ≡ encode_lower bytes.now }
 {
     if bytes.len() == 4 {
-        write_hex_of_four(bytes, out);
-    } else {
-        write_hex_of_each(bytes, out);
+        write_hexadecimal_pair(bytes[0], out, 0);
+        write_hexadecimal_pair(bytes[1], out, 2);
+        write_hexadecimal_pair(bytes[2], out, 4);
+        write_hexadecimal_pair(bytes[3], out, 6);
+        return;
+    }
+    for i in 0..bytes.len() {
+        write_hexadecimal_pair(bytes[i], out, 2 * i);
     }
 }
 

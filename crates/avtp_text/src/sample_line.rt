@@ -5,7 +5,7 @@ ghost use Rattle.hex.specs.Hex.{encode_lower};
 ghost use Rattle.avtp_text.specs.Listen.{due_text, place_text};
 ghost use Rattle.avtp_text.specs.Pieces.{newline};
 ghost use Rattle.avtp_text.specs.SampleLines.{SamplePacket};
-ghost use Rattle.avtp_text.specs.state.SampleLines.{Fits, KnowsGaps, StartsAt, behind_frame, behind_instant, behind_seq, seen_as};
+ghost use Rattle.avtp_text.specs.state.SampleLines.{AddsSample, Fits, IsBehind, KnowsGaps, StartsAt, seen_as};
 
 use crate::line::{LONGEST, Line};
 use crate::overwrite::{overwrite_decimal, overwrite_eight_digits, overwrite_hex};
@@ -21,19 +21,6 @@ const INSTANTS: i64 = 100_000_000;
 
 /// The longest line that is kept, in bytes. A longer line is built anew for each sample.
 const KEPT: usize = 128;
-
-/// Prepends to the line a packet's sequence number and the number of a sample in the packet.
-#[tactic(auto, unfolding(crate::specs::Listen::place_text))]
-#[inline(always)]
-pub fn prepend_place(line: &mut Line, seq: u8, j: u32)
-    requires { 34 + length line.old ≤ LONGEST }
-    ensures text { line.new ≡ place_text seq j ++ line.old }
-    ensures len { length line.new ≤ 34 + length line.old }
-{
-    line.prepend(" ");
-    line.prepend_u32(" sample ", j);
-    line.prepend_u32(" seq ", seq as u32);
-}
 
 /// The numbers from `least` to `limit - 1`.
 #[derive(Clone, Copy)]
@@ -87,9 +74,7 @@ struct Behind {
 fn whole_line(instant: i64, frame: u64, seq: u8, j: u32, bytes: &[u8]) -> (Line, Behind)
     requires { length bytes.now ≤ SHORT }
     ensures text { result.0 ≡ due_text instant frame ++ place_text seq j ++ encode_lower bytes.now ++ newline }
-    ensures instant { result.1.instant ≡ length (behind_instant frame seq (decimal j) (encode_lower bytes.now)) }
-    ensures frame { result.1.frame ≡ length (behind_frame seq (decimal j) (encode_lower bytes.now)) }
-    ensures seq { result.1.seq ≡ length (behind_seq (decimal j) (encode_lower bytes.now)) }
+    ensures behind { IsBehind result.1 frame seq (decimal j) (encode_lower bytes.now) }
 {
     let mut line = Line::new();
     line.prepend_hex(bytes);
@@ -228,8 +213,7 @@ impl SampleLine {
         requires short { length bytes.now ≤ SHORT }
         requires size { length bytes.now ≡ self.old.size }
         requires room { length buffer.old + LONGEST ≤ 65536 }
-        ensures text { buffer.new ≡ buffer.old ++ (due_text instant self.old.frame ++ place_text self.old.seq j ++ encode_lower bytes.now ++ newline) }
-        ensures packet { self.new ≡ self.old }
+        ensures { AddsSample self.old self.new buffer.old buffer.new instant j bytes.now }
     {
         let (line, behind) = whole_line(instant, self.frame, self.seq, j, bytes);
         buffer.push(line.as_slice());
@@ -252,8 +236,7 @@ impl SampleLine {
         requires short { length bytes.now ≤ SHORT }
         requires size { length bytes.now ≡ self.old.size }
         requires room { length buffer.old + LONGEST ≤ 65536 }
-        ensures text { buffer.new ≡ buffer.old ++ (due_text instant self.old.frame ++ place_text self.old.seq j ++ encode_lower bytes.now ++ newline) }
-        ensures packet { self.new ≡ self.old }
+        ensures { AddsSample self.old self.new buffer.old buffer.new instant j bytes.now }
     {
         let Some(low) = low_of(self.line.from, self.line.numbers, instant, j) else {
             self.add_anew(buffer, instant, j, bytes);

@@ -8,9 +8,10 @@ ghost use Rattle.iec61883_format.specs.Iec.{iec_shape};
 ghost use Rattle.cvf_format.specs.Cvf.{cvf_shape};
 ghost use Rattle.crf_format.specs.Crf.{crf_shape, point_at};
 ghost use Rattle.pcap_frames.specs.Frame.{frame_shape};
+ghost use Rattle.avtp_text.specs.state.Lines.{Prepends};
 ghost use Rattle.avtp_text.specs.Written.{Prints};
 
-use crate::buffer::Text;
+use crate::buffer::{Text, make_room};
 use crate::line::{LONGEST, Line};
 use aaf_format::{AafFormat, AafView};
 use avtp_base::{Failed, Refusal};
@@ -35,8 +36,7 @@ pub fn prepend_frame(line: &mut Line, number: u64, arrival: i64)
 
 /// The name of a sample format.
 pub fn format_name(format: AafFormat) -> &'static str
-    ensures name { result.now ≡ format_text format }
-    ensures short { length result.now ≤ 7 }
+    ensures { result.now ≡ format_text format }
 {
     match format {
         AafFormat::Float32 => "float32",
@@ -51,8 +51,7 @@ pub fn format_name(format: AafFormat) -> &'static str
 #[inline(always)]
 fn prepend_header(line: &mut Line, header: &StreamHeader)
     requires { 63 + length line.old ≤ LONGEST }
-    ensures text { line.new ≡ header_text header.now ++ line.old }
-    ensures len { length line.new ≤ 63 + length line.old }
+    ensures { Prepends line.old line.new (header_text header.now) 63 }
 {
     line.prepend_flag(" mr ", header.mr);
     line.prepend_flag(" tu ", header.tu);
@@ -62,25 +61,8 @@ fn prepend_header(line: &mut Line, header: &StreamHeader)
     line.prepend_id("id ", header.stream_id);
 }
 
-/// Prepends the fields of an IEC 61883-6 packet to the line.
-#[inline(always)]
-fn prepend_iec(line: &mut Line, view: &IecView<'_>)
-    requires { 146 + length line.old ≤ LONGEST }
-    ensures text { line.new ≡ iec_content (iec_shape view.now) ++ line.old }
-    ensures len { length line.new ≤ 146 + length line.old }
-{
-    line.prepend_u32(" bytes ", view.header.data_length as u32);
-    line.prepend_u32(" count ", view.count);
-    line.prepend_u32(" fdf ", view.cip.fdf as u32);
-    line.prepend_u32(" dbc ", view.cip.dbc as u32);
-    line.prepend_u32(" dbs ", view.cip.dbs as u32);
-    prepend_header(line, &view.header);
-    line.prepend("iec ");
-}
-
 fn part_name(part: NalPart) -> &'static str
-    ensures name { result.now ≡ part_text part }
-    ensures short { length result.now ≤ 6 }
+    ensures { result.now ≡ part_text part }
 {
     match part {
         NalPart::Single => "single",
@@ -88,61 +70,6 @@ fn part_name(part: NalPart) -> &'static str
         NalPart::Middle => "middle",
         NalPart::Last => "last",
     }
-}
-
-/// The type of a NAL unit, given the unit's first byte.
-fn nal_type(nal: u8) -> u32
-    ensures { result ≡ type_of_nal nal }
-{
-    u32::from(nal % 32)
-}
-
-/// Prepends the fields of an H.264 packet to the line.
-#[inline(always)]
-fn prepend_h264(line: &mut Line, view: &CvfView<'_>)
-    requires { 144 + length line.old ≤ LONGEST }
-    ensures text { line.new ≡ h264_content (cvf_shape view.now) ++ line.old }
-    ensures len { length line.new ≤ 144 + length line.old }
-{
-    line.prepend_u32(" bytes ", view.header.data_length as u32);
-    line.prepend(part_name(view.part));
-    line.prepend(" part ");
-    line.prepend_u32(" nal ", nal_type(view.nal));
-    line.prepend_flag(" marker ", view.marker);
-    line.prepend_u32(" pt ", view.h264_timestamp);
-    line.prepend_flag(" ptv ", view.ptv);
-    prepend_header(line, &view.header);
-    line.prepend("h264 ");
-}
-
-/// Prepends to the line the number of timestamps in a CRF packet, and the first timestamp.
-fn prepend_points(line: &mut Line, view: &CrfView<'_>)
-    requires some { 8 ≤ length view.now.payload.now }
-    requires room { 55 + length line.old ≤ LONGEST }
-    ensures text { line.new ≡ codes " points " ++ decimal (length view.now.payload.now / 8) ++ codes " first " ++ decimal (point_at 0 view.now.payload.now) ++ line.old }
-    ensures len { length line.new ≤ 55 + length line.old }
-{
-    line.prepend_u64(" first ", point(view, 0));
-    line.prepend_u64(" points ", (view.payload.len() / 8) as u64);
-}
-
-/// Prepends the fields of a CRF packet to the line.
-#[inline(always)]
-fn prepend_crf(line: &mut Line, view: &CrfView<'_>)
-    requires some { 8 ≤ length view.now.payload.now }
-    requires room { 171 + length line.old ≤ LONGEST }
-    ensures text { line.new ≡ crf_content (crf_shape view.now) ++ line.old }
-    ensures len { length line.new ≤ 171 + length line.old }
-{
-    prepend_points(line, view);
-    line.prepend_u32(" interval ", view.interval as u32);
-    line.prepend_u32(" pull ", view.pull as u32);
-    line.prepend_u32(" base ", view.base_frequency);
-    line.prepend_u32(" type ", view.kind as u32);
-    line.prepend_flag(" tu ", view.tu);
-    line.prepend_flag(" mr ", view.mr);
-    line.prepend_u32(" seq ", view.seq as u32);
-    line.prepend_id("crf id ", view.stream_id);
 }
 
 impl Text {
@@ -209,8 +136,9 @@ impl Text {
     ) -> Result<(), Failed>
         ensures { Prints (S.state out.old) (S.state out.new) self.old self.new result (frame_line number arrival (aaf_content (aaf_shape view.now))) }
     {
-        self.make_room(out, LONGEST)?;
-        self.push_aaf(number, arrival, view);
+        make_room(&mut self.buffer, out, LONGEST)?;
+        self.aaf.write(number, arrival, view);
+        self.buffer.push(self.aaf.as_slice());
         Ok(())
     }
 
@@ -225,12 +153,19 @@ impl Text {
         ensures { Prints (S.state out.old) (S.state out.new) self.old self.new result (frame_line number arrival (iec_content (iec_shape view.now))) }
     {
         let mut line = Line::new();
-        prepend_iec(&mut line, view);
+        line.prepend_u32(" bytes ", view.header.data_length as u32);
+        line.prepend_u32(" count ", view.count);
+        line.prepend_u32(" fdf ", view.cip.fdf as u32);
+        line.prepend_u32(" dbc ", view.cip.dbc as u32);
+        line.prepend_u32(" dbs ", view.cip.dbs as u32);
+        prepend_header(&mut line, &view.header);
+        line.prepend("iec ");
         prepend_frame(&mut line, number, arrival);
         self.print(out, line.as_slice())
     }
 
     /// Prints the fields of an H.264 packet.
+    #[tactic(auto, using(crate::proofs::Names::part_fits))]
     pub fn frame_h264<S: Sink>(
         &mut self,
         out: &mut S,
@@ -241,7 +176,15 @@ impl Text {
         ensures { Prints (S.state out.old) (S.state out.new) self.old self.new result (frame_line number arrival (h264_content (cvf_shape view.now))) }
     {
         let mut line = Line::new();
-        prepend_h264(&mut line, view);
+        line.prepend_u32(" bytes ", view.header.data_length as u32);
+        line.prepend(part_name(view.part));
+        line.prepend(" part ");
+        line.prepend_u32(" nal ", (view.nal % 32) as u32);
+        line.prepend_flag(" marker ", view.marker);
+        line.prepend_u32(" pt ", view.h264_timestamp);
+        line.prepend_flag(" ptv ", view.ptv);
+        prepend_header(&mut line, &view.header);
+        line.prepend("h264 ");
         prepend_frame(&mut line, number, arrival);
         self.print(out, line.as_slice())
     }
@@ -258,7 +201,16 @@ impl Text {
         ensures { Prints (S.state out.old) (S.state out.new) self.old self.new result (frame_line number arrival (crf_content (crf_shape view.now))) }
     {
         let mut line = Line::new();
-        prepend_crf(&mut line, view);
+        line.prepend_u64(" first ", point(view, 0));
+        line.prepend_u64(" points ", (view.payload.len() / 8) as u64);
+        line.prepend_u32(" interval ", view.interval as u32);
+        line.prepend_u32(" pull ", view.pull as u32);
+        line.prepend_u32(" base ", view.base_frequency);
+        line.prepend_u32(" type ", view.kind as u32);
+        line.prepend_flag(" tu ", view.tu);
+        line.prepend_flag(" mr ", view.mr);
+        line.prepend_u32(" seq ", view.seq as u32);
+        line.prepend_id("crf id ", view.stream_id);
         prepend_frame(&mut line, number, arrival);
         self.print(out, line.as_slice())
     }

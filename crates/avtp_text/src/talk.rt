@@ -2,6 +2,7 @@
 
 ghost use Rattle.std.specs.Prelude.{◌≡◌, ◌+◌, ◌≤◌, ◌++◌, length};
 ghost use Rattle.avtp_text.specs.Talk.{fault_text, talk_input_line, talk_line};
+ghost use Rattle.avtp_text.specs.state.Lines.{Prepends};
 ghost use Rattle.avtp_text.specs.Written.{Prints};
 
 use crate::buffer::Text;
@@ -13,8 +14,7 @@ use talker::TalkFault;
 /// Prepends a fault to the line.
 fn prepend_fault(line: &mut Line, fault: TalkFault)
     requires { 10 + length line.old ≤ LONGEST }
-    ensures text { line.new ≡ fault_text fault ++ line.old }
-    ensures len { length line.new ≤ 10 + length line.old }
+    ensures { Prepends line.old line.new (fault_text fault) 10 }
 {
     match fault {
         TalkFault::Frames => line.prepend("frames"),

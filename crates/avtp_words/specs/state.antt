@@ -1,4 +1,5 @@
 -- Only private functions and proofs use these definitions.
+pub mod Answers
 pub mod Number
 pub mod Operands
 pub mod Reading

@@ -1,7 +1,8 @@
 //! The command `agree`: which two captures to compare.
 
-ghost use Rattle.std.specs.Prelude.{◌≡◌, ◌∷◌, codes, IfOk, IfErr};
-ghost use Rattle.avtp_words.specs.Grammar.{IsCommandLine, IsOffence, SaysAgree, agreeing_of, request_of};
+ghost use Rattle.std.specs.Prelude.{◌∷◌, codes};
+ghost use Rattle.avtp_words.specs.Grammar.{SaysAgree, agreeing_of};
+ghost use Rattle.avtp_words.specs.state.Answers.{Asks, Reads};
 ghost use Rattle.avtp_words.specs.Word.{texts};
 
 use crate::command::{Command, Offence};
@@ -22,16 +23,14 @@ pub struct Agree<'a> {
 
 /// Reads the words after `agree`.
 pub fn read_agree(words: &[String]) -> Result<Command<'_>, Offence>
-    ensures ok { IfOk result (λ command. IsCommandLine (codes "agree" ∷ texts words.now) (request_of command)) }
-    ensures err { IfErr result (λ offence. IsOffence (codes "agree" ∷ texts words.now) offence.position) }
+    ensures { Reads Asks (codes "agree" ∷ texts words.now) result }
 {
     let asked = read_words(words)?;
     Ok(Command::Agree(asked))
 }
 
 fn read_words(words: &[String]) -> Result<Agree<'_>, Offence>
-    ensures ok { IfOk result (λ asked. SaysAgree (codes "agree" ∷ texts words.now) (agreeing_of asked)) }
-    ensures err { IfErr result (λ offence. IsOffence (codes "agree" ∷ texts words.now) offence.position) }
+    ensures { Reads (λ line asked. SaysAgree line (agreeing_of asked)) (codes "agree" ∷ texts words.now) result }
 {
     let place = operands_at(&AGREE_OPTIONS, &STREAM_OPERANDS, words)?;
     let StreamAndTwo {

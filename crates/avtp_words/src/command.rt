@@ -2,6 +2,7 @@
 
 ghost use Rattle.std.specs.Prelude.{◌≡◌, ℕ, ◌+◌, ◌-◌, ◌^◌, ◌<◌, ◌∷◌, codes, IfOk, IfErr, IsOkAnd, IsErrAnd};
 ghost use Rattle.avtp_words.specs.Grammar.{Request, request_of, IsCommandLine, IsOffence};
+ghost use Rattle.avtp_words.specs.state.Answers.{Asks, Reads};
 ghost use Rattle.avtp_words.specs.Word.{texts};
 
 use crate::agree::{Agree, read_agree};
@@ -94,8 +95,7 @@ pub fn parse(words: &[String]) -> Result<Command<'_>, Offence>
 }
 
 fn read_show(words: &[String]) -> Result<Command<'_>, Offence>
-    ensures ok { IfOk result (λ command. IsCommandLine (codes "show" ∷ texts words.now) (request_of command)) }
-    ensures err { IfErr result (λ offence. IsOffence (codes "show" ∷ texts words.now) offence.position) }
+    ensures { Reads Asks (codes "show" ∷ texts words.now) result }
 {
     let place = operands_at(&SHOW_OPTIONS, &SHOW_OPERANDS, words)?;
     let Some(file) = word_at(words, place) else {
@@ -106,8 +106,7 @@ fn read_show(words: &[String]) -> Result<Command<'_>, Offence>
 }
 
 fn read_check(words: &[String]) -> Result<Command<'_>, Offence>
-    ensures ok { IfOk result (λ command. IsCommandLine (codes "check" ∷ texts words.now) (request_of command)) }
-    ensures err { IfErr result (λ offence. IsOffence (codes "check" ∷ texts words.now) offence.position) }
+    ensures { Reads Asks (codes "check" ∷ texts words.now) result }
 {
     let place = operands_at(&CHECK_OPTIONS, &CHECK_OPERANDS, words)?;
     let limit = number_after(&words[..place], LIMIT.name, MAX_LIMIT);
@@ -116,8 +115,7 @@ fn read_check(words: &[String]) -> Result<Command<'_>, Offence>
 }
 
 fn read_soak(words: &[String]) -> Result<Command<'_>, Offence>
-    ensures ok { IfOk result (λ command. IsCommandLine (codes "soak" ∷ texts words.now) (request_of command)) }
-    ensures err { IfErr result (λ offence. IsOffence (codes "soak" ∷ texts words.now) offence.position) }
+    ensures { Reads Asks (codes "soak" ∷ texts words.now) result }
 {
     let place = operands_at(&SOAK_OPTIONS, &SOAK_OPERANDS, words)?;
     let Some(number) = word_at(words, place) else {

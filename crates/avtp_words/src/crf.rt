@@ -1,9 +1,9 @@
 //! The media clock that `talk` sends with a stream.
 
-ghost use Rattle.std.specs.Prelude.{◌≡◌, ◌*◌, ◌/◌, ◌%◌, ◌≤◌, ◌<◌, ◌↔◌, ◌^◌, IsTrue};
-ghost use Rattle.clock_track.specs.Pairs.{pull_down as pull_down_of, pull_up as pull_up_of};
-ghost use Rattle.avtp_words.specs.Grammar.{FitsClock, FitsStream, HasWholeRuns, spacing_of};
-ghost use Rattle.avtp_words.specs.state.Reading.{ClockIsWithin, IsReadClock, IsWithin};
+ghost use Rattle.std.specs.Prelude.{◌≡◌, ◌*◌, ◌≤◌, ◌↔◌, IsTrue};
+ghost use Rattle.clock_track.specs.Pairs.{pull_up as pull_up_of};
+ghost use Rattle.avtp_words.specs.Grammar.{FitsClock, FitsStream, HasWholeRuns};
+ghost use Rattle.avtp_words.specs.state.Reading.{ClockIsWithin, IsEvents, IsReadClock, IsSpacing, IsWithin};
 ghost use Rattle.avtp_words.specs.Word.{texts};
 
 use crate::limits::{
@@ -78,12 +78,8 @@ impl Crf {
 
     /// The product of the clock's interval, `rate`, and the denominator of the pull factor.
     fn events_by(self, rate: u32) -> u64
-        requires some_interval { 1 ≤ self.interval }
-        requires some_rate { 1 ≤ rate }
-        requires rate { rate ≤ 192000 }
-        ensures value { result ≡ self.interval * rate * pull_down_of self.pull }
-        ensures some { 1 ≤ result }
-        ensures most { result < 2 ^ 44 }
+        requires { IsWithin self rate }
+        ensures { IsEvents self rate result }
     {
         u64::from(self.interval) * u64::from(rate) * pull_down(self.pull)
     }
@@ -91,9 +87,7 @@ impl Crf {
     /// Whether the number of clock packets between two restarts is whole and a multiple of 8. True if there are no
     /// restarts.
     fn has_whole_runs(self, spacing: u64, rate: u32, count: u32, restart: Option<u32>) -> bool
-        requires spacing { spacing ≡ spacing_of self rate }
-        requires some { 1 ≤ spacing }
-        requires most { spacing < 2 ^ 44 }
+        requires spacing { IsSpacing self rate spacing }
         requires some_points { 1 ≤ self.points }
         ensures { IsTrue result ↔ HasWholeRuns self rate count restart }
     {

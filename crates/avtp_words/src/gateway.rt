@@ -1,8 +1,9 @@
 //! The command `gateway`: which stream of a capture to convert to the other format.
 
-ghost use Rattle.std.specs.Prelude.{◌≡◌, ◌∷◌, codes, IfOk, IfErr, IfSome, IfNone, Some, take};
-ghost use Rattle.avtp_words.specs.Grammar.{IsCommandLine, IsOffence, SaysGateway, gateway_form, request_of, turning_of};
+ghost use Rattle.std.specs.Prelude.{◌≡◌, ◌∷◌, codes, Some, take};
+ghost use Rattle.avtp_words.specs.Grammar.{SaysGateway, gateway_form, turning_of};
 ghost use Rattle.avtp_words.specs.Options.{gateway_format_name};
+ghost use Rattle.avtp_words.specs.state.Answers.{Asks, Finds, Reads};
 ghost use Rattle.avtp_words.specs.state.Reading.{IsRestTo, value_after};
 ghost use Rattle.avtp_words.specs.Word.{texts};
 
@@ -40,8 +41,7 @@ pub struct Gateway<'a> {
 /// Reads the words after `gateway`. If each word is valid, but `--to` is not given or the output has the input's name,
 /// the offence is at the command.
 pub fn read_gateway(words: &[String]) -> Result<Command<'_>, Offence>
-    ensures ok { IfOk result (λ command. IsCommandLine (codes "gateway" ∷ texts words.now) (request_of command)) }
-    ensures err { IfErr result (λ offence. IsOffence (codes "gateway" ∷ texts words.now) offence.position) }
+    ensures { Reads Asks (codes "gateway" ∷ texts words.now) result }
 {
     let place = operands_at(&GATEWAY_OPTIONS, &STREAM_OPERANDS, words)?;
     let Some(to) = format_after(&words[..place]) else {
@@ -79,16 +79,14 @@ fn read_words(words: &[String], place: usize, to: GatewayFormat) -> Gateway<'_>
 
 /// The format that `--to` gives, if `--to` is given.
 fn format_after(options: &[String]) -> Option<GatewayFormat>
-    ensures some { IfSome result (λ to. value_after (codes "--to") (texts options.now) ≡ Some (gateway_format_name to)) }
-    ensures none { IfNone result ((to : GatewayFormat) → value_after (codes "--to") (texts options.now) ≡ Some (gateway_format_name to) → ⊥) }
+    ensures { Finds (λ to. value_after (codes "--to") (texts options.now) ≡ Some (gateway_format_name to)) result }
 {
     gateway_format_of(word_after(options, TO.name)?)
 }
 
 /// The format that a word after `--to` names.
 pub fn gateway_format_of(word: &str) -> Option<GatewayFormat>
-    ensures named { IfSome result (λ format. word.now ≡ gateway_format_name format) }
-    ensures none { IfNone result ((format : GatewayFormat) → word.now ≡ gateway_format_name format → ⊥) }
+    ensures { Finds (λ format. word.now ≡ gateway_format_name format) result }
 {
     match word {
         "am824" => Some(GatewayFormat::Am824),

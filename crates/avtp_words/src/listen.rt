@@ -1,8 +1,8 @@
 //! The command `listen`: what to listen to.
 
-ghost use Rattle.std.specs.Prelude.{◌≡◌, ◌∷◌, ◌↔◌, codes, IfOk, IfErr, IsTrue};
-ghost use Rattle.avtp_words.specs.Grammar.{IsCommandLine, IsOffence, KeepsNames, SaysListen, listening_of, request_of};
-ghost use Rattle.avtp_words.specs.state.Reading.{AreHeard};
+ghost use Rattle.std.specs.Prelude.{◌∷◌, ◌↔◌, codes, IsTrue};
+ghost use Rattle.avtp_words.specs.Grammar.{KeepsNames, SaysListen, listening_of};
+ghost use Rattle.avtp_words.specs.state.Answers.{Asks, Reads, ReadsListen};
 ghost use Rattle.avtp_words.specs.Word.{texts};
 
 use crate::command::{Command, Offence};
@@ -33,8 +33,7 @@ const LISTEN_OPERANDS: [Operand; 2] = [Operand::Id, Operand::Names];
 /// Reads the words after `listen`. If each word is valid but the words contradict one another, the offence is at the
 /// command.
 pub fn read_listen(words: &[String]) -> Result<Command<'_>, Offence>
-    ensures ok { IfOk result (λ command. IsCommandLine (codes "listen" ∷ texts words.now) (request_of command)) }
-    ensures err { IfErr result (λ offence. IsOffence (codes "listen" ∷ texts words.now) offence.position) }
+    ensures { Reads Asks (codes "listen" ∷ texts words.now) result }
 {
     let asked = read_words(words)?;
     if asked.keeps_names(words) {
@@ -46,8 +45,7 @@ pub fn read_listen(words: &[String]) -> Result<Command<'_>, Offence>
 
 /// What the words after `listen` ask for. Rules over several words are not checked.
 fn read_words(words: &[String]) -> Result<Listen<'_>, Offence>
-    ensures ok { IfOk result (λ asked. SaysListen (codes "listen" ∷ texts words.now) (listening_of asked)) }
-    ensures err { IfErr result (λ offence. IsOffence (codes "listen" ∷ texts words.now) offence.position) }
+    ensures { Reads (λ line asked. SaysListen line (listening_of asked)) (codes "listen" ∷ texts words.now) result }
 {
     let place = operands_at(&LISTEN_OPTIONS, &LISTEN_OPERANDS, words)?;
     let Some(id) = word_at(words, place) else {
@@ -60,9 +58,7 @@ fn read_words(words: &[String]) -> Result<Listen<'_>, Offence>
 }
 
 fn read_options<'a>(options: &'a [String], stream: u64, files: &'a [String]) -> Listen<'a>
-    ensures stream { result.listener.stream ≡ stream }
-    ensures files { result.files.now ≡ files.now }
-    ensures read { AreHeard (texts options.now) (listening_of result) }
+    ensures { ReadsListen (texts options.now) stream files.now result }
 {
     Listen {
         listener: listener_after(options, stream),

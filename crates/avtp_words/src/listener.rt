@@ -1,7 +1,6 @@
 //! The listener that the options of `listen`, `agree` and `gateway` ask for.
 
-ghost use Rattle.std.specs.Prelude.{◌≡◌};
-ghost use Rattle.avtp_words.specs.state.Reading.{IsReadListener};
+ghost use Rattle.avtp_words.specs.state.Answers.{ReadsListener};
 ghost use Rattle.avtp_words.specs.Word.{texts};
 
 use crate::limits::{
@@ -34,8 +33,7 @@ pub struct ListenerOptions {
 
 /// The listener to `stream` that the options of a command ask for.
 pub fn listener_after(options: &[String], stream: u64) -> ListenerOptions
-    ensures stream { result.stream ≡ stream }
-    ensures read { IsReadListener (texts options.now) result }
+    ensures { ReadsListener (texts options.now) stream result }
 {
     ListenerOptions {
         stream,

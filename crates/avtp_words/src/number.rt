@@ -1,15 +1,14 @@
 //! Numbers as words.
 
-ghost use Rattle.std.specs.Prelude.{◌≡◌, ◌≢◌, ℕ, ℤ, List, ◌∷◌, ◌^◌, ◌<◌, ◌↔◌, IsTrue, IfSome, IfNone, MatchOption, decimal, unsigned_abs};
-ghost use Rattle.std.specs.Fmt.{signed_decimal};
+ghost use Rattle.std.specs.Prelude.{◌≡◌, ◌≢◌, ℕ, ℤ, List, ◌∷◌, ◌↔◌, IsTrue, MatchOption};
 ghost use Rattle.avtp_words.specs.Number.{IsNumber, IsSigned};
+ghost use Rattle.avtp_words.specs.state.Answers.{FindsNumber, FindsSigned};
 ghost use Rattle.avtp_words.specs.state.Number.{BeginsAsNumber};
 
 /// The number that `word` spells in decimal digits, without a sign or a leading zero. `None` if `word` spells no number
 /// below 2^64.
 pub fn number_of(word: &str) -> Option<u64>
-    ensures spelled { IfSome result (λ n. word.now ≡ decimal n) }
-    ensures none { IfNone result ((n : ℕ) → n < 2 ^ 64 → word.now ≢ decimal n) }
+    ensures { FindsNumber word.now result }
 {
     if begins_as_number(word.as_bytes()) {
         word.parse::<u64>().ok()
@@ -31,9 +30,7 @@ pub fn is_number(word: &str, low: u64, high: u64) -> bool
 /// The number that `word` spells in decimal digits without a leading zero. If the number is below 0, a `-` precedes the
 /// digits. `None` if `word` spells no number from -(2^63 - 1) to 2^63 - 1.
 pub fn signed_number_of(word: &str) -> Option<i64>
-    ensures spelled { IfSome result (λ z. word.now ≡ signed_decimal z) }
-    ensures size { IfSome result (λ z. unsigned_abs z < 2 ^ 63) }
-    ensures none { IfNone result ((z : ℤ) → unsigned_abs z < 2 ^ 63 → word.now ≢ signed_decimal z) }
+    ensures { FindsSigned word.now result }
 {
     match after_minus(word) {
         Some(digits) => negative_of(digits),
@@ -54,9 +51,7 @@ pub fn is_signed(word: &str, most: u32) -> bool
 /// The negative number that `-` followed by `digits` spells. `None` if `-` and `digits` together spell no number from
 /// -(2^63 - 1) to -1.
 fn negative_of(digits: &str) -> Option<i64>
-    ensures spelled { IfSome result (λ z. 45 ∷ digits.now ≡ signed_decimal z) }
-    ensures size { IfSome result (λ z. unsigned_abs z < 2 ^ 63) }
-    ensures none { IfNone result ((z : ℤ) → unsigned_abs z < 2 ^ 63 → 45 ∷ digits.now ≢ signed_decimal z) }
+    ensures { FindsSigned (45 ∷ digits.now) result }
 {
     let n = number_of(digits)?;
     if n == 0 {

@@ -1,12 +1,12 @@
 //! The operands of a command: the words after its options.
 
-ghost use Rattle.std.specs.Prelude.{◌≡◌, ◌+◌, ◌≤◌, ◌↔◌, ℕ, length, IsTrue, IfOk, IfErr, IfSome, IfNone, All};
-ghost use Rattle.avtp_words.specs.Grammar.{StopsAt};
+ghost use Rattle.std.specs.Prelude.{◌≡◌, ◌↔◌, IsTrue};
 ghost use Rattle.avtp_words.specs.Limits as limits;
 ghost use Rattle.avtp_words.specs.Number.{IsNumber};
 ghost use Rattle.avtp_words.specs.Operands.{AreOperands, IsOperand};
+ghost use Rattle.avtp_words.specs.state.Answers.{Finds, FindsOperands, FindsUnnamed, FindsWrong};
 ghost use Rattle.avtp_words.specs.state.Operands.{NameStreamAndTwo, stream_operands, takes_all as takes_all_of};
-ghost use Rattle.avtp_words.specs.state.Reading.{IsFirstUnnamed, IsRest, IsRestTo, StopsAfter, are_sound, rows_of};
+ghost use Rattle.avtp_words.specs.state.Reading.{are_sound, rows_of};
 ghost use Rattle.avtp_words.specs.Word.{texts, IsName, IsId};
 
 use crate::command::Offence;
@@ -77,8 +77,7 @@ pub fn stream_and_two(operands: &[String]) -> StreamAndTwo<'_>
 
 /// The stream ID that `word` spells in sixteen hexadecimal digits, in lower or upper case.
 pub fn id_of(word: &str) -> Option<u64>
-    ensures spelled { IfSome result (λ id. IsId word.now id) }
-    ensures none { IfNone result ((id : ℕ) → IsId word.now id → ⊥) }
+    ensures { Finds (IsId word.now) result }
 {
     let mut bytes = [0u8; 8];
     match hex::decode_to_slice(word.as_bytes(), &mut bytes) {
@@ -89,8 +88,7 @@ pub fn id_of(word: &str) -> Option<u64>
 
 /// The number of packets that `word` spells, 0 to 1,000,000.
 pub fn packets_of(word: &str) -> Option<u32>
-    ensures spelled { IfSome result (IsNumber 0 limits.packets word.now) }
-    ensures none { IfNone result ((n : ℕ) → IsNumber 0 limits.packets word.now n → ⊥) }
+    ensures { Finds (IsNumber 0 limits.packets word.now) result }
 {
     let n = number_of(word)?;
     if n <= MAX_PACKETS {
@@ -109,8 +107,7 @@ pub fn is_name(word: &str) -> bool
 
 /// The index of the first word that is not a name.
 fn first_unnamed(words: &[String]) -> Option<usize>
-    ensures some { IfSome result (IsFirstUnnamed (texts words.now)) }
-    ensures none { IfNone result (All IsName (texts words.now)) }
+    ensures { FindsUnnamed words.now result }
 {
     for (place, word) in words.iter().enumerate() {
         if !is_name(word.as_str()) {
@@ -123,9 +120,7 @@ fn first_unnamed(words: &[String]) -> Option<usize>
 /// The index of the first wrong word. A word is wrong in two cases: no operand takes the word, or the word is not valid
 /// as the operand that takes it. A missing word is wrong, too.
 fn first_wrong(operands: &[Operand], words: &[String]) -> Option<usize>
-    ensures wrong { IfSome result (StopsAt (AreOperands operands.now) (texts words.now)) }
-    ensures within { IfSome result (λ place. place ≤ length words.now) }
-    ensures none { IfNone result (AreOperands operands.now (texts words.now)) }
+    ensures { FindsWrong operands.now words.now result }
 {
     match (operands.split_first(), words.split_first()) {
         (None, None) => None,
@@ -153,9 +148,7 @@ pub fn operands_at(
     words: &[String],
 ) -> Result<usize, Offence>
     requires { IsTrue (are_sound (rows_of rows.now)) }
-    ensures ok { IfOk result (IsRestTo (rows_of rows.now) operands.now (texts words.now)) }
-    ensures within { IfOk result (λ place. place ≤ length words.now) }
-    ensures err { IfErr result (λ offence. StopsAfter (IsRest (rows_of rows.now) operands.now) (texts words.now) offence.position) }
+    ensures { FindsOperands (rows_of rows.now) operands.now words.now result }
 {
     let place = match options_len(rows, words) {
         Ok(place) => place,

@@ -1,12 +1,13 @@
 //! The table of the options that a command knows, and how options are read.
 
-ghost use Rattle.std.specs.Prelude.{◌≡◌, ◌≤◌, ◌↔◌, Contains, length, IsTrue, IfOk, IfErr, IfSome, IfNone, slice_get, string_bytes};
+ghost use Rattle.std.specs.Prelude.{◌≡◌, ◌↔◌, Contains, IsTrue, slice_get, string_bytes};
 ghost use Rattle.std.specs.List.{find, list_any, position};
 ghost use Rattle.std.specs.Option.{option_copied};
 ghost use Rattle.std.specs.Str.{bytes_eq};
 ghost use Rattle.avtp_words.specs.Grammar.{Lacks, Need};
 ghost use Rattle.avtp_words.specs.Options.{IsValue, stands_alone as stands_alone_of};
-ghost use Rattle.avtp_words.specs.state.Reading.{EndsOptions, IsTakenAt, LacksValue, StopsOptions, are_sound, names_of, rows_of, value_after};
+ghost use Rattle.avtp_words.specs.state.Answers.{EndsOrStops, FindsValue};
+ghost use Rattle.avtp_words.specs.state.Reading.{are_sound, names_of, rows_of, value_after};
 ghost use Rattle.avtp_words.specs.Word.{texts, BeginsWithDash};
 
 use crate::gateway::gateway_format_of;
@@ -139,8 +140,7 @@ pub fn have_needed(words: &[String], needed: &str, options: &[OptionRow]) -> boo
 /// How many words the value of an option takes up at index `place`: 0 if the option takes no value, otherwise 1. `None`
 /// if the word at `place` is missing or is not a value that the option takes.
 fn value_len(words: &[String], place: usize, takes: Takes) -> Option<usize>
-    ensures some { IfSome result (IsTakenAt takes (texts words.now) place) }
-    ensures none { IfNone result (LacksValue takes (texts words.now) place) }
+    ensures { FindsValue takes words.now place result }
 {
     if takes.stands_alone() {
         return Some(0);
@@ -156,10 +156,7 @@ fn value_len(words: &[String], place: usize, takes: Takes) -> Option<usize>
 /// words.
 pub fn options_len(rows: &[OptionRow], words: &[String]) -> Result<usize, usize>
     requires { IsTrue (are_sound (rows_of rows.now)) }
-    ensures ok { IfOk result (EndsOptions (rows_of rows.now) (texts words.now)) }
-    ensures ok_within { IfOk result (λ place. place ≤ length words.now) }
-    ensures err { IfErr result (StopsOptions (rows_of rows.now) (texts words.now)) }
-    ensures err_within { IfErr result (λ place. place ≤ length words.now) }
+    ensures { EndsOrStops (rows_of rows.now) words.now result }
 {
     let mut place = 0;
     while let Some(name) = word_at(words, place)

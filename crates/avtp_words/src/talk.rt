@@ -1,12 +1,13 @@
 //! The command `talk`: which input to make into a capture, and how.
 
-ghost use Rattle.std.specs.Prelude.{◌≡◌, ℕ, ◌*◌, ◌≤◌, ◌^◌, ◌↔◌, ◌∷◌, pos, codes, IsTrue, IfOk, IfErr, IsSomeAnd, Some, nat_eq};
+ghost use Rattle.std.specs.Prelude.{◌≡◌, ℕ, ◌*◌, ◌≤◌, ◌^◌, ◌↔◌, ◌∷◌, pos, codes, IsTrue, IsSomeAnd, Some, nat_eq};
 ghost use Rattle.std.specs.List.{list_any};
 ghost use Rattle.std.specs.Option.{option_eq};
 ghost use Rattle.aaf_format.specs.Aaf.{rate_of as rate_of_code};
 ghost use Rattle.iec61883_format.specs.Iec.{rate_of_fdf as rate_of_fdf_code, syt_interval as interval_of_code};
-ghost use Rattle.avtp_words.specs.Grammar.{FitsBlocks, FitsKind, FitsSamples, IsCommandLine, FitsOptions, IsOffence, KeepsRules, Lacks, SaysTalk, lacking, request_of, talking_of};
-ghost use Rattle.avtp_words.specs.state.Reading.{AreRead, ClockIsWithin, IsReadKind, IsReadOf, is_long_enough as is_enough, suits as suits_of};
+ghost use Rattle.avtp_words.specs.Grammar.{FitsBlocks, FitsKind, FitsSamples, FitsOptions, KeepsRules, Lacks, SaysTalk, lacking, talking_of};
+ghost use Rattle.avtp_words.specs.state.Answers.{Asks, Reads, ReadsTalk};
+ghost use Rattle.avtp_words.specs.state.Reading.{ClockIsWithin, IsReadKind, IsReadOf, is_long_enough as is_enough, suits as suits_of};
 ghost use Rattle.avtp_words.specs.Limits.{default_rate as default_rate_of, start as start_limits};
 ghost use Rattle.avtp_words.specs.Word.{texts};
 
@@ -81,12 +82,10 @@ const TALK_OPERANDS: [Operand; 2] = [Operand::Name, Operand::Name];
 const RATE_CODES: [u8; 10] = [1, 2, 3, 4, 5, 6, 7, 8, 9, 10];
 
 /// Reads the words after `talk`. If a word is missing, the offence is one past the last word. If each word is valid but
-/// the words contradict one another, the offence is at the command. The option `--kind` can follow `--rate`, so a rate
-/// is compared with the kind only after all words are read. For H.264, a rate above 240 access units a second is
-/// therefore a contradiction, not an invalid word.
+/// the words contradict one another, the offence is at the command. For H.264, a rate above 240 access units a second
+/// counts as a contradiction, because `--kind` can follow `--rate`.
 pub fn read_talk(words: &[String]) -> Result<Command<'_>, Offence>
-    ensures ok { IfOk result (λ command. IsCommandLine (codes "talk" ∷ texts words.now) (request_of command)) }
-    ensures err { IfErr result (λ offence. IsOffence (codes "talk" ∷ texts words.now) offence.position) }
+    ensures { Reads Asks (codes "talk" ∷ texts words.now) result }
 {
     let asked = read_words(words)?;
     if asked.keeps_rules(words) {
@@ -98,8 +97,7 @@ pub fn read_talk(words: &[String]) -> Result<Command<'_>, Offence>
 
 /// What the words after `talk` ask for. Rules over several words are not checked.
 fn read_words(words: &[String]) -> Result<Talk<'_>, Offence>
-    ensures ok { IfOk result (λ asked. SaysTalk (codes "talk" ∷ texts words.now) (talking_of asked)) }
-    ensures err { IfErr result (λ offence. IsOffence (codes "talk" ∷ texts words.now) offence.position) }
+    ensures { Reads (λ line asked. SaysTalk line (talking_of asked)) (codes "talk" ∷ texts words.now) result }
 {
     let place = operands_at(&TALK_OPTIONS, &TALK_OPERANDS, words)?;
     let Some(input) = word_at(words, place) else {
@@ -115,10 +113,7 @@ fn read_words(words: &[String]) -> Result<Talk<'_>, Offence>
 }
 
 fn read_options<'a>(options: &[String], kind: Kind, input: &'a str, output: &'a str) -> Talk<'a>
-    ensures kind { result.kind ≡ kind }
-    ensures input { result.input.now ≡ input.now }
-    ensures output { result.output.now ≡ output.now }
-    ensures read { AreRead (texts options.now) (talking_of result) }
+    ensures { ReadsTalk (texts options.now) kind input.now output.now result }
 {
     let rate = small_number_after(options, RATE.name, kind.default_rate());
     Talk {

@@ -1,7 +1,8 @@
 //! The values of a command's options, or their defaults.
 
-ghost use Rattle.std.specs.Prelude.{◌≡◌, ◌^◌, IfSome, IfNone};
+ghost use Rattle.std.specs.Prelude.{◌≡◌, ◌^◌};
 ghost use Rattle.avtp_words.specs.Options.{format_name};
+ghost use Rattle.avtp_words.specs.state.Answers.{Finds};
 ghost use Rattle.avtp_words.specs.state.Reading.{IsRead, IsReadFormat, IsReadId, IsReadIdIf, IsReadIf, IsReadSigned, value_after};
 ghost use Rattle.avtp_words.specs.Word.{texts};
 
@@ -78,8 +79,7 @@ pub fn signed_number_after(options: &[String], name: &str, default: i64) -> i64
 
 /// The sample format that `word` names, if any.
 pub fn format_of(word: &str) -> Option<AafFormat>
-    ensures named { IfSome result (λ format. word.now ≡ format_name format) }
-    ensures none { IfNone result ((format : AafFormat) → word.now ≡ format_name format → ⊥) }
+    ensures { Finds (λ format. word.now ≡ format_name format) result }
 {
     match word {
         "int16" => Some(AafFormat::Int16),

@@ -2,8 +2,11 @@
 -- for the next samples.
 use Rattle.std.specs.Prelude.{◌≡◌, ℕ, ◌+◌, ◌*◌, ◌^◌, ◌<◌, ◌≤◌, ℤ, pos, ◌+ℤ◌, List, ◌++◌, length, take, codes, decimal}
 use Rattle.sample_schedule.specs.Batches.{Presented}
+use Rattle.avtp_text.specs.declared.sample_line.Behind.{Behind}
 use Rattle.avtp_text.specs.declared.sample_line.Numbers.{Numbers}
 use Rattle.avtp_text.specs.declared.sample_line.KeptLine.{KeptLine}
+use Rattle.hex.specs.Hex.{encode_lower}
+use Rattle.avtp_text.specs.Listen.{due_text, place_text}
 use Rattle.avtp_text.specs.Pieces.{newline}
 use Rattle.avtp_text.specs.SampleLines.{SamplePacket}
 
@@ -34,6 +37,17 @@ behind_instant frame seq number hex = codes " frame " ++ decimal frame ++ behind
 abbrev pub gapped : ℕ → List ℕ → ℕ → ℕ → List ℕ → List ℕ → List ℕ
 gapped high low frame seq number hex = codes "at " ++ decimal high ++ low ++ behind_instant frame seq number hex
 
+-- the line of a sample of the packet `shown` was appended to the text `old`, and the kept line still shows this packet
+pub record AddsSample (shown shown' : SamplePacket) (old new : List ℕ) (instant : ℤ) (j : ℕ) (bytes : List ℕ) : Type 0 where
+  pub text : new ≡ old ++ (due_text instant shown.frame ++ place_text shown.seq j ++ encode_lower bytes ++ newline)
+  pub packet : shown' ≡ shown
+
+-- how many bytes of a sample's line follow the instant, the number of the frame, and the sequence number
+pub record IsBehind (behind : Behind) (frame_number sequence : ℕ) (number hex : List ℕ) : Type 0 where
+  pub instant : behind.instant ≡ length (behind_instant frame_number sequence number hex)
+  pub frame : behind.frame ≡ length (behind_frame sequence number hex)
+  pub seq : behind.seq ≡ length (behind_seq number hex)
+
 -- The kept line is the line of a sample of `packet`. The text of the line is known except for the last eight digits of
 -- the instant, the sample's number, and the sample's bytes.
 pub record HasGaps (line : KeptLine) (packet : SamplePacket) : Type 0 where
@@ -49,9 +63,7 @@ pub record HasGaps (line : KeptLine) (packet : SamplePacket) : Type 0 where
   pub eight : length low ≡ 8
   pub numbers : (n : ℕ) → line.numbers.least ≤ n → n < line.numbers.limit → length (decimal n) ≡ length number
   pub digits : length hex ≡ 2 * packet.size
-  pub instant : line.behind.instant ≡ length (behind_instant packet.frame packet.seq number hex)
-  pub frame : line.behind.frame ≡ length (behind_frame packet.seq number hex)
-  pub seq : line.behind.seq ≡ length (behind_seq number hex)
+  pub behind : IsBehind line.behind packet.frame packet.seq number hex
 
 -- if a line is kept, it is the line of a sample of this packet, and the positions of its gaps are known
 abbrev pub KnowsGaps : KeptLine → SamplePacket → Type 0

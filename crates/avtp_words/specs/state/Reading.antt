@@ -22,7 +22,8 @@ use Rattle.avtp_words.specs.Word.{BeginsWithDash, IsName, IsId}
 use Rattle.avtp_words.specs.Options.{Row, Setting, words_of, AreSettings, IsTaken, IsValue, format_name, stands_alone}
 use Rattle.avtp_words.specs.Limits as limits
 use Rattle.avtp_words.specs.Limits.{NumberOption, default_rate, with_default}
-use Rattle.avtp_words.specs.Grammar.{Begins, Stops, StopsAt, Listening, NamedFile, NamedRaw, Talking}
+use Rattle.clock_track.specs.Pairs.{pull_down}
+use Rattle.avtp_words.specs.Grammar.{Begins, Stops, StopsAt, Listening, NamedFile, NamedRaw, Talking, spacing_of}
 use Rattle.aaf_format.specs.declared.aaf.AafFormat.TheVariants.{Int16}
 
 -- a row of the code's table, with plain bytes instead of its borrowed name
@@ -175,6 +176,18 @@ pub record IsWithin (crf : Crf) (rate : ℕ) : Type 0 where
   pub some_points : 1 ≤ crf.points
   pub some_rate : 1 ≤ rate
   pub most_rate : rate ≤ limits.rate.high
+
+-- `events` is the product of the clock's interval, the rate of its stream, and the denominator of its pull factor.
+pub record IsEvents (crf : Crf) (rate events : ℕ) : Type 0 where
+  pub value : events ≡ crf.interval * rate * pull_down crf.pull
+  pub some : 1 ≤ events
+  pub most : events < 2 ^ 44
+
+-- `spacing` is the number of the stream's sample frames from one timestamp of the clock to the next.
+pub record IsSpacing (crf : Crf) (rate spacing : ℕ) : Type 0 where
+  pub value : spacing ≡ spacing_of crf rate
+  pub some : 1 ≤ spacing
+  pub most : spacing < 2 ^ 44
 
 abbrev pub ClockIsWithin : Option Crf → ℕ → Type 0
 ClockIsWithin None rate = ⊤

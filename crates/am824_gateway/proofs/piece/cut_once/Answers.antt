@@ -18,7 +18,7 @@ returns-clause-cuts c =
     let one = one_piece to shape batch block c.requires.one (some_rate shape c.requires.shape) presentable.some in
     let p : Piece = record { first = 0; count = batch.count; block = block } in
     let total = ap (λ (b : Presented). b.count) c.batch.view_is in
-    let items : c.push.new.pieces.items ≡ record { first = 0; count = c.batch.inside.count; block = block } ∷ [] = rw c.requires.none at c.push.ensures.items in
+    let items : c.push.new.pieces.items ≡ record { first = 0; count = c.batch.inside.count; block = block } ∷ [] = rw c.clear.ensures.items at c.push.ensures.items in
     let items : c.push.new.pieces.items ≡ p ∷ [] = items ∙ ap (λ (n : ℕ). record { first = 0; count = n; block = block } ∷ []) total in
     let at = presentable.instants 0 (omega arith) in
     let at = rw (← c.instant.ensures) at at in

@@ -6,10 +6,13 @@ use Rattle.avtp_words.proofs.CommandLines.{words_after}
 use Rattle.avtp_words.proofs.Commands.{offence_after, check_is}
 use Rattle.avtp_words.proofs.command.read_check.Goals as goal
 
-pub returns-in_err-place-clause-err : goal.returns-in_err-place-clause-err
-returns-in_err-place-clause-err c =
+pub returns-in_err-place : goal.returns-in_err-place
+returns-in_err-place c =
     let p = err_from_is_err_and c.from_residual.result c.from_residual.ensures.1 in
-    rw (p.1, p.2) (offence_after check_form (texts c.args.words.now) c.in_err-place.field-0.0.position refl c.in_err-place.ensures.err)
+    record { ok = rw p.1 tt; err = rw (p.1, p.2) (offence_after check_form (texts c.args.words.now) c.in_err-place.field-0.0.position refl c.in_err-place.ensures.err) }
 
-pub returns-clause-ok : goal.returns-clause-ok
-returns-clause-ok c = check_is c.args.words.now c.in_ok-place.place c.number_after-limit.result _ c.in_ok-place.ensures.ok (sym (words_after c.args.words.now c.in_ok-place.place)) c.number_after-limit.ensures
+pub returns : goal.returns
+returns c = record {
+  ok = check_is c.args.words.now c.in_ok-place.place c.number_after-limit.result _ c.in_ok-place.ensures.ok (sym (words_after c.args.words.now c.in_ok-place.place)) c.number_after-limit.ensures;
+  err = tt;
+}

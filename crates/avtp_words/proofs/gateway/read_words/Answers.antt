@@ -9,4 +9,4 @@ pub returns : goal.returns
 returns c =
     let names = c.stream_and_two-stream.result in
     gateway_says c.args.words.now c.args.place names.stream (turning_of (record { listener = c.listener_after.result; to = c.args.to; id = c.id_after.result; input = names.first; output = names.second }))
-    c.requires.rest c.stream_and_two-stream.ensures c.listener_after.ensures.stream c.listener_after.ensures.read c.requires.to c.id_after.ensures
+    c.requires.rest c.stream_and_two-stream.ensures c.listener_after.ensures.stream_is c.listener_after.ensures.read c.requires.to c.id_after.ensures

@@ -1,7 +1,10 @@
-use Rattle.std.proofs.Common.{arith}
+use Rattle.std.proofs.Common.{arith, rules}
 use Rattle.avtp_words.proofs.Numbers.{unfit}
 use Rattle.avtp_words.proofs.number.signed_number_of.Goals as goal
 
-pub returns-in_ok-number_of-in-None-clause-none : goal.returns-in_ok-number_of-in-None-clause-none
-returns-in_ok-number_of-in-None-clause-none c =
-    unfit c.args.word.now c.in_ok-number_of-in-None.field-0 c.try_from.result c.ok.result (omega arith) c.in_ok-number_of-in-None.ensures.spelled c.try_from.ensures c.ok.ensures.value c.in-None.ensures
+pub returns-in_ok-number_of-in-None : goal.returns-in_ok-number_of-in-None
+returns-in_ok-number_of-in-None c = record {
+  spelled = search rules;
+  size = search rules;
+  none = unfit c.args.word.now c.in_ok-number_of-in-None.field-0 c.try_from.result c.ok.result (omega arith) c.in_ok-number_of-in-None.ensures.spelled c.try_from.ensures c.ok.ensures.value c.in-None.ensures;
+}

@@ -4,12 +4,14 @@ use Rattle.std.proofs.lemmas.Nat.{be_bytes_8}
 use Rattle.avtp_words.proofs.Operands.{decoded, decoded_bytes}
 use Rattle.avtp_words.proofs.operand.id_of.Goals as goal
 
-pub returns-in-Ok-clause-spelled : goal.returns-in-Ok-clause-spelled
-returns-in-Ok-clause-spelled c =
-    let value = rw c.as_bytes.ensures.value at c.decode_to_slice.ensures.value in
-    let bytes = c.decode_to_slice.new.out in
-    let digits = decoded c.args.word.now c.decode_to_slice.result bytes c.in-Ok.is value in
-    record {
-      fits = c.from_be_bytes.type_inv;
-      digits = digits ∙ ap Ok (sym (be_bytes_8 bytes c.from_be_bytes.result c.decode_to_slice.auto.out (decoded_bytes c.args.word.now bytes digits) c.from_be_bytes.ensures));
-    }
+pub returns-in-Ok : goal.returns-in-Ok
+returns-in-Ok c = record {
+  spelled = let value = rw c.as_bytes.ensures.value at c.decode_to_slice.ensures.value in
+      let bytes = c.decode_to_slice.new.out in
+      let digits = decoded c.args.word.now c.decode_to_slice.result bytes c.in-Ok.is value in
+      record {
+        fits = c.from_be_bytes.type_inv;
+        digits = digits ∙ ap Ok (sym (be_bytes_8 bytes c.from_be_bytes.result c.decode_to_slice.auto.out (decoded_bytes c.args.word.now bytes digits) c.from_be_bytes.ensures));
+      };
+  none = tt;
+}

@@ -1,28 +1,36 @@
-use Rattle.std.proofs.Common.{◌≡◌, ◌<◌, length, Some, arith, sym}
+use Rattle.std.proofs.Common.{◌≡◌, ◌<◌, length, Some, arith, sym, rules}
 use Rattle.avtp_words.specs.Options.{row_named}
 use Rattle.avtp_words.specs.state.Reading.{rows_of, row_of}
 use Rattle.avtp_words.specs.Word.{texts}
 use Rattle.avtp_words.proofs.Steps.{unknown, repeated, first, row_is, stands, within, stops_next, goes_on}
 use Rattle.avtp_words.proofs.option.options_len.Goals as goal
 
-pub returns-in_default-clause-err : goal.returns-in_default-clause-err
-returns-in_default-clause-err c =
-    unknown c.args.rows.now c.args.words.now c.loop-name.place c.loop-name.invariant.1 c.in-Some.name.now (sym c.in-Some.ensures) (c.begins_with_dash.ensures.0 c.if-begins_with_dash.true) (sym c.in_default.ensures)
+pub returns-in_default : goal.returns-in_default
+returns-in_default c = record {
+  ok = tt;
+  ok_within = tt;
+  err = unknown c.args.rows.now c.args.words.now c.loop-name.place c.loop-name.invariant.1 c.in-Some.name.now (sym c.in-Some.ensures) (c.begins_with_dash.ensures.0 c.if-begins_with_dash.true) (sym c.in_default.ensures);
+  err_within = search rules;
+}
 
-pub returns-then-contains-clause-err : goal.returns-then-contains-clause-err
-returns-then-contains-clause-err c =
-    repeated c.args.rows.now c.args.words.now c.loop-name.place c.loop-name.invariant.1 c.in-Some.name.now c.requires (sym c.in-Some.ensures) (c.begins_with_dash.ensures.0 c.if-begins_with_dash.true) (sym c.if-contains.ensures)
+pub returns-then-contains : goal.returns-then-contains
+returns-then-contains c = record {
+  ok = tt;
+  ok_within = tt;
+  err = repeated c.args.rows.now c.args.words.now c.loop-name.place c.loop-name.invariant.1 c.in-Some.name.now c.requires (sym c.in-Some.ensures) (c.begins_with_dash.ensures.0 c.if-begins_with_dash.true) (sym c.if-contains.ensures);
+  err_within = search rules;
+}
 
-pub returns-in_default-value_len-clause-err : goal.returns-in_default-value_len-clause-err
-returns-in_default-value_len-clause-err c =
-    let row : row_named (rows_of c.args.rows.now) c.in-Some.name.now ≡ Some (row_of c.in-Some-find_row.row.now) = row_is c.args.rows.now c.in-Some.name.now c.in-Some-find_row.row.now (sym c.in-Some-find_row.ensures) in
-    stops_next (rows_of c.args.rows.now) (texts c.args.words.now) c.loop-name.place c.loop-name.invariant.1 c.in-Some.name.now (row_of c.in-Some-find_row.row.now) c.requires (sym c.in-Some.ensures) (c.begins_with_dash.ensures.0 c.if-begins_with_dash.true) row
-    (first c.args.rows.now c.args.words.now c.loop-name.place c.loop-name.invariant.1 c.in-Some.name.now (sym c.if-contains.ensures))
-    c.in_default-value_len.ensures.none
-
-pub returns-in_default-value_len-clause-err_within : goal.returns-in_default-value_len-clause-err_within
-returns-in_default-value_len-clause-err_within c =
-    let lt : c.loop-name.place < length c.args.words.now = stands c.args.words.now c.loop-name.place c.in-Some.name.now (sym c.in-Some.ensures) in omega arith
+pub returns-in_default-value_len : goal.returns-in_default-value_len
+returns-in_default-value_len c = record {
+  ok = tt;
+  ok_within = tt;
+  err = let row : row_named (rows_of c.args.rows.now) c.in-Some.name.now ≡ Some (row_of c.in-Some-find_row.row.now) = row_is c.args.rows.now c.in-Some.name.now c.in-Some-find_row.row.now (sym c.in-Some-find_row.ensures) in
+      stops_next (rows_of c.args.rows.now) (texts c.args.words.now) c.loop-name.place c.loop-name.invariant.1 c.in-Some.name.now (row_of c.in-Some-find_row.row.now) c.requires (sym c.in-Some.ensures) (c.begins_with_dash.ensures.0 c.if-begins_with_dash.true) row
+      (first c.args.rows.now c.args.words.now c.loop-name.place c.loop-name.invariant.1 c.in-Some.name.now (sym c.if-contains.ensures))
+      c.in_default-value_len.ensures.none;
+  err_within = let lt : c.loop-name.place < length c.args.words.now = stands c.args.words.now c.loop-name.place c.in-Some.name.now (sym c.in-Some.ensures) in omega arith;
+}
 
 pub loop-name-smaller : goal.loop-name-smaller
 loop-name-smaller c =

@@ -7,6 +7,8 @@ use Rattle.avtp_words.proofs.talk.read_talk.Goals as goal
 pub keeps_rules-requires : goal.keeps_rules-requires
 keeps_rules-requires c = talk_clock (codes "talk" ∷ texts c.args.words.now) (talking_of c.in_ok-asked.asked) c.in_ok-asked.ensures.ok
 
-pub returns-else-keeps_rules-clause-err : goal.returns-else-keeps_rules-clause-err
-returns-else-keeps_rules-clause-err c =
-    offence_of_rule (codes "talk" ∷ texts c.args.words.now) (talking_of c.in_ok-asked.asked) c.in_ok-asked.ensures.ok (λ keeps. absurd (let kept = c.if-keeps_rules.ensures.1 keeps in cc))
+pub returns-else-keeps_rules : goal.returns-else-keeps_rules
+returns-else-keeps_rules c = record {
+  ok = tt;
+  err = offence_of_rule (codes "talk" ∷ texts c.args.words.now) (talking_of c.in_ok-asked.asked) c.in_ok-asked.ensures.ok (λ keeps. absurd (let kept = c.if-keeps_rules.ensures.1 keeps in cc));
+}

@@ -26,7 +26,7 @@ returns-in-Audio-clause-scanned c =
     let st = ap (λ (s : Scanning). s.stream) c.self.view_is in
     let here : content now.stream c.args.bytes.now ≡ Audio c.in-Audio.samples = rw (← st) (sym c.in-Audio.ensures.exact) in
     let noted = c.note_samples.ensures in
-    audio_scanned c.note_samples.result now c.note_samples.new.self c.args.bytes.now (Audio c.in-Audio.samples) here noted.kept.0 noted.kept.1 noted.shape noted.none
+    audio_scanned c.note_samples.result now c.note_samples.new.self c.args.bytes.now (Audio c.in-Audio.samples) here noted.to noted.stream noted.shape noted.none
 
 pub returns-in-Audio-clause-fault : goal.returns-in-Audio-clause-fault
 returns-in-Audio-clause-fault c =

@@ -35,7 +35,5 @@ invariant_of-self-then-len-le-KEPT c = λ small.
       eight = length_eight start.low;
       numbers = c.as_long_as-self-inside.ensures;
       digits = omega (arith, length-encode_with lower_digits c.args.bytes.now, c.requires.size, ap (λ (p : SamplePacket). p.size) c.self.view_is);
-      instant = c.whole_line-line.ensures.instant;
-      frame = c.whole_line-line.ensures.frame;
-      seq = c.whole_line-line.ensures.seq;
+      behind = c.whole_line-line.ensures.behind;
     }

@@ -1,4 +1,4 @@
-use Rattle.std.proofs.Common.{◌≡◌, ◌+◌, ◌*◌, ◌^◌, ◌<◌, ◌++◌, List, ℕ, pos, ◌+ℤ◌, length, decimal, refl, sym, ap, ◌∙◌, arith, w64, to_z, of_z, to_z-of_z}
+use Rattle.std.proofs.Common.{◌≡◌, ◌+◌, ◌*◌, ◌^◌, ◌<◌, ◌++◌, List, ℕ, pos, ◌+ℤ◌, length, decimal, refl, sym, ap, ◌∙◌, arith, w64, to_z, of_z, to_z-of_z, rules}
 use Rattle.std.proofs.lemmas.Int.{ints}
 use Rattle.hex.specs.Hex.{encode_lower, lower_digits}
 use Rattle.hex.proofs.HexLemmas.{length-encode_with}
@@ -23,7 +23,7 @@ overwrite_decimal-requires c =
     let same = gaps.numbers c.args.j fits.least fits.limit in
     let size = ap (λ (p : SamplePacket). p.size) c.self.view_is in
     let copied = c.waiting_mut-text.ensures.value ∙ c.push_first.ensures ∙ ap (λ (x : List ℕ). b ++ x) gaps.text in
-    let first = low_written b c.waiting_mut-text.result.now c.overwrite_eight_digits.new.text gaps.high gaps.low frame seq gaps.number gaps.hex copied c.self.inside.line.behind.instant low (gaps.eight ∙ sym (length_eight c.in-Some.low)) gaps.instant c.overwrite_eight_digits.ensures in
+    let first = low_written b c.waiting_mut-text.result.now c.overwrite_eight_digits.new.text gaps.high gaps.low frame seq gaps.number gaps.hex copied c.self.inside.line.behind.instant low (gaps.eight ∙ sym (length_eight c.in-Some.low)) gaps.behind.instant c.overwrite_eight_digits.ensures in
     let gap = room c.overwrite_eight_digits.new.text (before_number b gaps.high low frame seq) gaps.number (hex_end gaps.hex) (first ∙ at_number b gaps.high low frame seq gaps.number gaps.hex) in
     omega (arith, same, gap, hex_end_length gaps.hex, gaps.digits, c.requires.size, size)
 
@@ -38,14 +38,14 @@ overwrite_hex-requires c =
     let same = gaps.numbers c.args.j fits.least fits.limit in
     let size = ap (λ (p : SamplePacket). p.size) c.self.view_is in
     let copied = c.waiting_mut-text.ensures.value ∙ c.push_first.ensures ∙ ap (λ (x : List ℕ). b ++ x) gaps.text in
-    let first = low_written b c.waiting_mut-text.result.now c.overwrite_eight_digits.new.text gaps.high gaps.low frame seq gaps.number gaps.hex copied c.self.inside.line.behind.instant low (gaps.eight ∙ sym (length_eight c.in-Some.low)) gaps.instant c.overwrite_eight_digits.ensures in
+    let first = low_written b c.waiting_mut-text.result.now c.overwrite_eight_digits.new.text gaps.high gaps.low frame seq gaps.number gaps.hex copied c.self.inside.line.behind.instant low (gaps.eight ∙ sym (length_eight c.in-Some.low)) gaps.behind.instant c.overwrite_eight_digits.ensures in
     let end : 2 * length c.args.bytes.now + 2 ≡ length (hex_end gaps.hex) = omega (arith, hex_end_length gaps.hex, gaps.digits, c.requires.size, size) in
     let second = number_written b c.overwrite_eight_digits.new.text c.overwrite_decimal.new.text gaps.high low frame seq gaps.number gaps.hex first (2 * length c.args.bytes.now + 2) (decimal c.args.j) (sym same) end c.overwrite_decimal.ensures.overwrites in
     let gap = room c.overwrite_decimal.new.text (before_hex b gaps.high low frame seq (decimal c.args.j)) gaps.hex newline (second ∙ at_hex b gaps.high low frame seq (decimal c.args.j) gaps.hex) in
     omega (arith, gap, gaps.digits, c.requires.size, size)
 
-pub returns-clause-text : goal.returns-clause-text
-returns-clause-text c =
+pub returns : goal.returns
+returns c =
     let fits = rw (to_z-of_z c.ranges.instant) at c.in-Some.ensures in
     let gaps = c.self.invariant (omega (arith, fits.least, fits.limit)) in
     let b = c.args.buffer.now in
@@ -55,7 +55,7 @@ returns-clause-text c =
     let same = gaps.numbers c.args.j fits.least fits.limit in
     let size = ap (λ (p : SamplePacket). p.size) c.self.view_is in
     let copied = c.waiting_mut-text.ensures.value ∙ c.push_first.ensures ∙ ap (λ (x : List ℕ). b ++ x) gaps.text in
-    let first = low_written b c.waiting_mut-text.result.now c.overwrite_eight_digits.new.text gaps.high gaps.low frame seq gaps.number gaps.hex copied c.self.inside.line.behind.instant low (gaps.eight ∙ sym (length_eight c.in-Some.low)) gaps.instant c.overwrite_eight_digits.ensures in
+    let first = low_written b c.waiting_mut-text.result.now c.overwrite_eight_digits.new.text gaps.high gaps.low frame seq gaps.number gaps.hex copied c.self.inside.line.behind.instant low (gaps.eight ∙ sym (length_eight c.in-Some.low)) gaps.behind.instant c.overwrite_eight_digits.ensures in
     let end : 2 * length c.args.bytes.now + 2 ≡ length (hex_end gaps.hex) = omega (arith, hex_end_length gaps.hex, gaps.digits, c.requires.size, size) in
     let second = number_written b c.overwrite_eight_digits.new.text c.overwrite_decimal.new.text gaps.high low frame seq gaps.number gaps.hex first (2 * length c.args.bytes.now + 2) (decimal c.args.j) (sym same) end c.overwrite_decimal.ensures.overwrites in
     let hex = encode_lower c.args.bytes.now in
@@ -67,5 +67,6 @@ returns-clause-text c =
     let within : gaps.high * 100000000 + c.in-Some.low < 2 ^ 64 = omega (arith, ints, latest) in
     let line = ap (λ (x : List ℕ). b ++ x) (sample_text c.args.instant gaps.high c.in-Some.low frame seq c.args.j hex gaps.some fits.small at within) in
     let left = c.overwrite_hex.auto.text ∙ c.overwrite_decimal.auto.text ∙ c.overwrite_eight_digits.auto.text ∙ ap length c.waiting_mut-text.ensures.value in
-    all_left c.push_first.new.self c.overwrite_hex.new.text left ∙ third ∙ line
-    ∙ ap (λ (p : SamplePacket). b ++ (due_text c.args.instant p.frame ++ place_text p.seq c.args.j ++ hex ++ newline)) c.self.view_is
+    let text = all_left c.push_first.new.self c.overwrite_hex.new.text left ∙ third ∙ line
+    ∙ ap (λ (p : SamplePacket). b ++ (due_text c.args.instant p.frame ++ place_text p.seq c.args.j ++ hex ++ newline)) c.self.view_is in
+    record { text = text; packet = search rules }

@@ -1,6 +1,6 @@
 use Rattle.std.proofs.Common.{◌≡◌, ◌*◌, length, take}
 use Rattle.hex.specs.Hex.{encode_lower}
-use Rattle.avtp_text.proofs.pairs.write_hex_of_each.Given as goal
+use Rattle.avtp_text.proofs.pairs.write_hex.Given as goal
 
 abbrev pub invariant-loop-i : goal.invariant-loop-i
 invariant-loop-i l = record {
