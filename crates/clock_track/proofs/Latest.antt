@@ -38,7 +38,7 @@ last_is rate instant (x ∷ xs) = cases (find_last (λ pair. covers pair rate in
 
 -- ---- each pair of the list
 
--- a pair that joined timestamps give has a property that all pairs of joined points have
+-- if two timestamps give a joined pair, the pair has each property that follows from its being joined
 pub by_each : (Q : Pair → Type 0) (shift : ℤ) (row : ClockRow) (first second : ℕ)
     → (nat_lt first (2 ^ 62) ≡ true → nat_lt second (2 ^ 62) ≡ true → is_joined (pair_of shift row first second) ≡ true → Q (pair_of shift row first second))
     → IfSome (joined_by shift row first second) Q

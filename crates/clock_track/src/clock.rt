@@ -7,7 +7,7 @@ ghost use Rattle.clock_track.specs.Limits.{IsClockLine, IsNotable, IsShift};
 ghost use Rattle.clock_track.specs.Rows.{clock_spot};
 ghost use Rattle.clock_track.specs.Views.{answered, row_of};
 ghost use Rattle.clock_track.specs.Window.{StandsFor};
-ghost use Rattle.clock_track.specs.state.Window.{HasBounds, HasRoom, HoldsRooms, IsRoom, kept_row};
+ghost use Rattle.clock_track.specs.state.Window.{HasBounds, HoldsRooms, IsKept, IsRoom, kept_row};
 
 use crate::answer::ClockAnswer;
 use crate::bounds::Bounds;
@@ -53,9 +53,7 @@ impl Kept {
     /// The packet, with its timestamps copied into `room`. Allocates nothing.
     fn in_room(room: Room, row: &Usable<'_>) -> Self
         requires { IsRoom room }
-        ensures row { kept_row result ≡ row_of row.now.points }
-        ensures room { HasRoom result }
-        ensures bounds { HasBounds row.now.shift result }
+        ensures { IsKept row.now.shift (row_of row.now.points) result }
     {
         let points = &row.points;
         let Room {
@@ -151,17 +149,6 @@ fn take_room(rows: &mut HeapCircularBuffer<Kept>, spare: &mut Vec<Room>) -> Room
     }
 }
 
-/// Appends a packet to the kept packets, which must be fewer than 64.
-fn put_behind(rows: &mut HeapCircularBuffer<Kept>, kept: Kept)
-    requires capacity { rows.old.capacity ≡ 64 }
-    requires room { length rows.old.items < 64 }
-    ensures { rows.new ≡ buffer (rows.old.items ++ kept ∷ []) 64 }
-{
-    let Ok(()) = rows.try_push_back(kept) else {
-        unreachable!()
-    };
-}
-
 /// A media clock (IEEE 1722-2016, 10). The clock keeps packets that give points, and of these only the last 64.
 #[derive(Drop)]
 pub struct Clock {
@@ -217,7 +204,9 @@ impl Clock {
                 points: *points,
                 shift: self.shift,
             };
-            put_behind(&mut self.rows, Kept::in_room(room, &row));
+            let Ok(()) = self.rows.try_push_back(Kept::in_room(room, &row)) else {
+                unreachable!()
+            };
         }
     }
 

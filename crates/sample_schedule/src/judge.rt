@@ -8,13 +8,12 @@ ghost use Rattle.clock_track.specs.Limits.{IsNotable};
 ghost use Rattle.clock_track.specs.Views.{row_of};
 ghost use Rattle.time_unfold.specs.Time.{IsArrival};
 ghost use Rattle.sample_schedule.specs.Judge.{Begins, IsIdle, Keeps, StandsFor, Takes, out, taken, work};
-ghost use Rattle.sample_schedule.specs.state.Judge.{CanTake, Puts, TakesFirst, Works, now_with};
+ghost use Rattle.sample_schedule.specs.state.Judge.{CanTake, Puts, Works, now_with};
 ghost use Rattle.sample_schedule.specs.Limits.{IsItem, IsPlan};
 ghost use Rattle.sample_schedule.specs.state.Order.{starts_due};
 ghost use Rattle.sample_schedule.specs.Schedule.{waiting};
 ghost use Rattle.sample_schedule.specs.Verdicts.{Clock, total_bytes};
 
-use crate::accepted::Accepted;
 use crate::item::Item;
 use crate::noted::Noted;
 use crate::pending::Pending;
@@ -154,24 +153,6 @@ impl Judge {
         self.put(Pending::Clock { arrival });
     }
 
-    /// Returns the first waiting batch, if the current entry arrived after the batch's instant.
-    #[inline(always)]
-    fn give_due(&mut self) -> Option<Accepted>
-        ensures due { IfSome result (λ first. first.instant <ℤ self.old.time) }
-        ensures none { IfNone result (starts_due self.new.time self.new.waiting ≡ false) }
-        ensures takes { TakesFirst self.old result self.new }
-    {
-        self.waiting.take_due(self.time)
-    }
-
-    /// Returns the first waiting batch.
-    fn give_first(&mut self) -> Option<Accepted>
-        ensures none { IfNone result (self.old.waiting ≡ []) }
-        ensures takes { TakesFirst self.old result self.new }
-    {
-        self.waiting.take_first()
-    }
-
     /// Judges the current entry. A flag is returned; an accepted item waits for its instant.
     #[inline(always)]
     fn judge(&mut self) -> Option<Shown>
@@ -217,7 +198,7 @@ impl Judge {
         if self.current.is_none() {
             return None;
         }
-        match self.give_due() {
+        match self.waiting.take_due(self.time) {
             Some(first) => Some(first.present()),
             None => self.judge(),
         }
@@ -257,10 +238,8 @@ impl Judge {
         if !self.closed {
             return None;
         }
-        match self.give_first() {
-            Some(first) => Some(first.present()),
-            None => None,
-        }
+        let first = self.waiting.take_first()?;
+        Some(first.present())
     }
 
     /// Returns the next of the items that are shown for the entries so far. Before `close`, only items that are due are

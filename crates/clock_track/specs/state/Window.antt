@@ -31,6 +31,12 @@ pub record HasBounds (shift : ℤ) (kept : Kept) : Type 0 where
   pub all : HasPairs shift (kept_row kept) kept.bounds
   pub groups : AreGroups shift (kept_row kept) kept.groups.items
 
+-- the packet is kept, with room for any packet's timestamps and with the bounds of its pairs
+pub record IsKept (shift : ℤ) (packet : ClockRow) (kept : Kept) : Type 0 where
+  pub row : kept_row kept ≡ packet
+  pub room : HasRoom kept
+  pub bounds : HasBounds shift kept
+
 -- The kept packets and the spare rooms together number `count`. Each kept packet's room and each spare room can hold
 -- any packet's timestamps.
 pub record HoldsRooms (rows : List Kept) (spare : Vec Room) (count : ℕ) : Type 0 where

@@ -5,7 +5,6 @@ use mathlib.Core.List.{IsPrefix}
 use Rattle.std.specs.Int.{int_max}
 use Rattle.std.specs.Option.{option_to_list}
 use Rattle.time_unfold.specs.Time.{IsArrival}
-use Rattle.sample_schedule.specs.declared.accepted.Accepted.{Accepted}
 use Rattle.sample_schedule.specs.declared.entry.Entry.{Entry}
 use Rattle.sample_schedule.specs.declared.pending.Pending.{Pending}
 use Rattle.sample_schedule.specs.declared.pending.Pending.TheVariants.{Item as PendingItem, Clock as PendingClock}
@@ -48,19 +47,14 @@ pub record CanTake (next : Pending) (judge : JudgeState) : Type 0 where
   pub taken : taken judge < 2 ^ 62
   pub pending : IsPending next
 
--- The judge has returned `result`. An item that it returned is the next one. The judge stands for the same entries as
--- before, and has fewer steps left by one if it returned an item.
+-- The judge has returned `result`: the next item that it shows, or `None`. The judge stands for the same entries as
+-- before. If an item was returned, fewer steps are left. The delay line has not grown.
 pub record Works (old : JudgeState) (result : Option Shown) (new : JudgeState) : Type 0 where
   pub next : (clock : Clock) (entries : List Entry) (given : ℕ) → StandsFor clock entries given old → IfSome result (λ shown. slice_get (out clock old entries) given ≡ Some shown)
   pub stands : (clock : Clock) (entries : List Entry) (given : ℕ) → StandsFor clock entries given old → StandsFor clock entries (given + length (option_to_list result)) new
   pub keeps : Keeps old new
   pub less : work new + length (option_to_list result) ≤ work old
   pub ahead : length new.ahead ≤ length old.ahead
-
--- `first` was taken from the front of the waiting batches; `None` if no batch was taken
-pub record TakesFirst (old : JudgeState) (first : Option Accepted) (new : JudgeState) : Type 0 where
-  pub waiting : old.waiting ≡ option_to_list first ++ new.waiting
-  pub same : new ≡ record old { waiting = new.waiting }
 
 -- The judge has returned all items that it shows for its entries so far, and these items were put at the end of a list.
 pub record GivesAll (before : List Shown) (old : JudgeState) (after : List Shown) (new : JudgeState) : Type 0 where

@@ -1,30 +1,34 @@
-use Rattle.std.proofs.Common.{ap, sym, ◌∙◌, Some, rules}
+use Rattle.std.proofs.Common.{◌≡◌, ap, sym, ◌∙◌, None, Some, rules}
 use Rattle.sample_schedule.specs.Judge.{JudgeState}
 use Rattle.sample_schedule.proofs.JudgeLemmas.{last-given, nothing-due, nothing-last}
 use Rattle.sample_schedule.proofs.judge.Judge.give_last.Goals as goal
 
-pub returns-in-Some-clause-given : goal.returns-in-Some-clause-given
-returns-in-Some-clause-given c clock entries given st =
+pub returns-clause-given : goal.returns-clause-given
+returns-clause-given c clock entries given st =
     let ended = ap (λ (s : JudgeState). s.closed) (sym c.self.view_is) ∙ c.if-not-self.false in
-    ap Some c.present.ensures ∙ sym (last-given clock entries given _ c.give_first.new.self c.in-Some.first st ended c.requires.idle (c.requires.over ended) c.in-Some.ensures.takes.waiting c.in-Some.ensures.takes.same).next
+    let waits = ap (λ (s : JudgeState). s.waiting) (sym c.self.view_is) ∙ c.in_ok-first.ensures.hands.list in
+    let same = ap (λ (s : JudgeState). record s { waiting = c.take_first.new.self.list }) c.self.view_is in
+    ap Some c.present.ensures ∙ sym (last-given clock entries given _ _ c.in_ok-first.first st ended c.requires.idle (c.requires.over ended) waits same).next
 
-pub returns-in-Some-clause-works : goal.returns-in-Some-clause-works
-returns-in-Some-clause-works c = record {
-  next = λ clock entries given st.
-      let ended = ap (λ (s : JudgeState). s.closed) (sym c.self.view_is) ∙ c.if-not-self.false in
-      (last-given clock entries given _ c.give_first.new.self c.in-Some.first st ended c.requires.idle (c.requires.over ended) c.in-Some.ensures.takes.waiting c.in-Some.ensures.takes.same).next ∙ ap Some (sym c.present.ensures);
-  stands = λ clock entries given st.
-      let ended = ap (λ (s : JudgeState). s.closed) (sym c.self.view_is) ∙ c.if-not-self.false in
-      (last-given clock entries given _ c.give_first.new.self c.in-Some.first st ended c.requires.idle (c.requires.over ended) c.in-Some.ensures.takes.waiting c.in-Some.ensures.takes.same).stands;
-  keeps = search rules;
-  less = search rules;
-  ahead = search rules;
-}
-
-pub returns-in-None-clause-given : goal.returns-in-None-clause-given
-returns-in-None-clause-given c clock entries given st =
+pub returns-clause-works : goal.returns-clause-works
+returns-clause-works c =
     let ended = ap (λ (s : JudgeState). s.closed) (sym c.self.view_is) ∙ c.if-not-self.false in
-    sym (nothing-last clock entries given _ st ended c.requires.idle (c.requires.over ended) c.in-None.ensures.none)
+    let waits = ap (λ (s : JudgeState). s.waiting) (sym c.self.view_is) ∙ c.in_ok-first.ensures.hands.list in
+    let same = ap (λ (s : JudgeState). record s { waiting = c.take_first.new.self.list }) c.self.view_is in
+    record {
+      next = λ clock entries given st. (last-given clock entries given _ _ c.in_ok-first.first st ended c.requires.idle (c.requires.over ended) waits same).next ∙ ap Some (sym c.present.ensures);
+      stands = λ clock entries given st. (last-given clock entries given _ _ c.in_ok-first.first st ended c.requires.idle (c.requires.over ended) waits same).stands;
+      keeps = search rules;
+      less = search rules;
+      ahead = search rules;
+    }
+
+pub returns-in_err-first-clause-given : goal.returns-in_err-first-clause-given
+returns-in_err-first-clause-given c clock entries given st =
+    let ended = ap (λ (s : JudgeState). s.closed) (sym c.self.view_is) ∙ c.if-not-self.false in
+    let empty = ap (λ (s : JudgeState). s.waiting) (sym c.self.view_is) ∙ c.in_err-first.ensures.none in
+    let none : c.from_residual.result ≡ None = search rules in
+    none ∙ sym (nothing-last clock entries given _ st ended c.requires.idle (c.requires.over ended) empty)
 
 pub returns-then-not-self-clause-given : goal.returns-then-not-self-clause-given
 returns-then-not-self-clause-given c clock entries given st =
