@@ -1,15 +1,16 @@
 -- A capture that is written while other files are read.
-use Rattle.std.proofs.Common.{◌≡◌, ℕ, List, [], ◌∷◌, ◌++◌, length, take, Option, Some, None, false, true, refl, sym, ap, subst, ◌∙◌, append_assoc, append-nil, arith}
-use Rattle.std.specs.Prelude.{◌≢◌, ◌==◌, if◌then◌else◌, IsErr, IsSome, Result, Ok, Err, OnErr, OnOk, option_and_then, option_map}
+use Rattle.std.proofs.Common.{◌≡◌, ℕ, List, [], ◌∷◌, ◌++◌, length, Option, Some, None, false, true, refl, sym, ap, subst, ◌∙◌, append_assoc, append-nil, arith}
+use Rattle.std.specs.Prelude.{◌≢◌, ◌==◌, if◌then◌else◌, IsErr, Result, Ok, Err, option_and_then, option_map}
 use Rattle.std.proofs.lemmas.Bool.Decides.{nat_tests}
-use Rattle.std.proofs.lemmas.List.{flat_map_more, length-append}
+use Rattle.std.proofs.lemmas.List.{drop_all, flat_map_more, length-append}
 use Rattle.pcap_frames.specs.Layout as layout
 use Rattle.pcap_frames.specs.Capture.{Record, header_spelling, record_spelling}
+use Rattle.avtp_base.specs.Rows.{Writes}
 use Rattle.avtp_base.specs.declared.failed.Failed.{Failed}
-use Rattle.avtp_base.specs.Files.{Files, Open, Slots, file_of, left_in, name_in, KeepsFiles, PutsFile}
+use Rattle.avtp_base.specs.declared.refusal.Room.{Room}
+use Rattle.avtp_base.specs.Files.{Files, Open, Slots, file_of, name_in, KeepsFiles, PutsFile}
 use Rattle.avtp_base.specs.States.{ShelfState}
 use Rattle.avtp_base.proofs.Files.{PutsFile-kept}
-use Rattle.avtp_files.specs.ShelfCalls.{IsMadeIn}
 use Rattle.capture_io.specs.Writing.{ClosesFile, CreatesFile, FinishesFile, IsWriting, KeepsSlotsBut, PutsPrefix, WritesSlot, Writing}
 use Rattle.capture_io.specs.CaptureWriting.{AddsRecord, BeginsCapture, ClosesCapture, FinishesCapture, HoldsCapture, HoldsFile, KeepsBeside, capture_bytes, written_style}
 
@@ -183,6 +184,15 @@ adds_none s t v w r (Err e) failed keeps writes = record { added = tt; kept = λ
 pub header_length : length (header_spelling written_style) ≡ 24
 unfolding layout.number_bytes
 header_length = refl
+
+-- 24 bytes are enough for the file header
+pub header_fits : (old new : List ℕ) (room : Room) → length old ≡ 24 → Writes (header_spelling written_style) old new (Err room) → ⊥
+header_fits old new room long writes = omega (arith, long, header_length, writes.1)
+
+-- if the file header is written to 24 bytes, nothing follows it
+pub header_fills : (old new : List ℕ) (n : ℕ) → length old ≡ 24 → Writes (header_spelling written_style) old new (Ok n) → new ≡ header_spelling written_style
+header_fills old new n long writes =
+    writes.2 ∙ (ap (λ (rest : List ℕ). header_spelling written_style ++ rest) (drop_all (length (header_spelling written_style)) old (omega (arith, long, header_length))) ∙ append-nil (header_spelling written_style))
 
 -- if nothing was added to its file, the writer's buffer is empty
 pub none_waits : (s t : ShelfState) (w : Writing) (name : List ℕ) → IsWriting s t w name [] → length w.waiting ≡ 0

@@ -50,7 +50,7 @@ full order start part more p whole q =
     ]
 
 -- adding n bytes to the record advances the reader by n bytes
-pub fill_advances : (r : Reading) (s : Style) (piece : List ℕ) (n : ℕ) (next : List ℕ) → r.refusal ≡ None → r.style ≡ Some s → IsPart s.order r.start r.part → Fills s.order r.start r.part piece (Ok n) next
+pub fill_advances : (r : Reading) (s : Style) (piece : List ℕ) {capacity : ℕ} (n : ℕ) (next : List ℕ) → r.refusal ≡ None → r.style ≡ Some s → IsPart s.order r.start r.part → Fills s.order r.start r.part piece (Ok n) next capacity
     → Advances (progress r) piece (Ok n) (progress (with_part r next))
 fill_advances r s piece n next none styled part fills =
     let long : length (take n piece) ≡ n = length-take-le n piece fills.within in
@@ -83,7 +83,7 @@ fill_advances r s piece n next none styled part fills =
     }
 
 -- if the added bytes show a refusal, the reader keeps this refusal
-pub fill_refused : (r : Reading) (s : Style) (piece : List ℕ) (why : Refusal) (next : List ℕ) → r.refusal ≡ None → r.style ≡ Some s → Fills s.order r.start r.part piece (Err why) next
+pub fill_refused : (r : Reading) (s : Style) (piece : List ℕ) {capacity : ℕ} (why : Refusal) (next : List ℕ) → r.refusal ≡ None → r.style ≡ Some s → Fills s.order r.start r.part piece (Err why) next capacity
     → Advances (progress r) piece (Err why) (progress (record r { part = next; refusal = Some why }))
 fill_refused r s piece why next none styled fills =
     let n = fills.refused.0 in

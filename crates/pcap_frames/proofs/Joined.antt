@@ -1,5 +1,5 @@
 -- Pieces joined one after the other.
-use Rattle.std.proofs.Common.{◌≡◌, ℕ, ◌+◌, ◌<◌, ◌≤◌, List, [], ◌∷◌, ◌++◌, length, take, drop, get_or, refl, sym, ap, ◌∙◌, arith, length-append}
+use Rattle.std.proofs.Common.{◌≡◌, ℕ, ◌+◌, ◌<◌, ◌≤◌, List, ◌++◌, length, take, drop, get_or, refl, sym, ap, ◌∙◌, arith, length-append}
 use Rattle.std.proofs.lemmas.Grind.{flat_map-append}
 use Rattle.std.proofs.lemmas.List.{append-nil, take_more, take-append-drop}
 use Rattle.pcap_frames.specs.Pieces.{joined}
@@ -12,7 +12,3 @@ pub joined_within : (pieces : List (List ℕ)) (i : ℕ) → length (joined (tak
 joined_within pieces i =
     let whole : joined pieces ≡ joined (take i pieces) ++ joined (drop i pieces) = ap joined (sym (take-append-drop i pieces)) ∙ flat_map-append (λ (p : List ℕ). p) (take i pieces) (drop i pieces) in
     omega (arith, ap length whole, length-append (joined (take i pieces)) (joined (drop i pieces)))
-
-pub joined_last : (pieces : List (List ℕ)) (piece : List ℕ) → length (joined (pieces ++ piece ∷ [])) ≡ length (joined pieces) + length piece
-joined_last pieces piece =
-    rw (flat_map-append (λ (p : List ℕ). p) pieces (piece ∷ []), append-nil) (length-append (joined pieces) piece)

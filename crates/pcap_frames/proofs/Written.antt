@@ -1,8 +1,9 @@
 -- The canonical spelling spells the capture.
-use Rattle.std.proofs.Common.{◌≡◌, ℕ, ◌*◌, ◌/◌, ◌%◌, ◌^◌, ◌<◌, ◌≤ℤ◌, ◌<ℤ◌, ℤ, pos, negsuc, nat_abs, List, [], ◌∷◌, ◌++◌, length, None, refl, sym, ap, ◌∙◌, arith, append_assoc, length-append}
+use Rattle.std.proofs.Common.{◌≡◌, ℕ, ◌*◌, ◌/◌, ◌%◌, ◌^◌, ◌<◌, ◌≤◌, ◌≤ℤ◌, ◌<ℤ◌, ℤ, pos, negsuc, nat_abs, List, [], ◌∷◌, ◌++◌, length, take, drop, None, Ok, Err, refl, sym, ap, ◌∙◌, arith, append_assoc, length-append}
 use Rattle.std.proofs.lemmas.Int.{ints}
-use Rattle.std.proofs.lemmas.List.{drop_at}
+use Rattle.std.proofs.lemmas.List.{drop_at, take-append-drop}
 use Rattle.std.specs.List.{flat_map, AllByRecursion}
+use Rattle.avtp_base.specs.Rows.{Writes}
 use Rattle.byteorder.specs.Numbers.{big_number-reads_back, little_number-reads_back, length-bytes_high_first, length-bytes_low_first}
 use Rattle.pcap_frames.specs.declared.style.Order.{Order}
 use Rattle.pcap_frames.specs.declared.style.Order.TheVariants.{Little, Big}
@@ -23,6 +24,9 @@ header_by Big Nano = record { size = refl; magic = refl; version_major = refl; n
 
 pub header_is : (style : Style) → IsFileHeader style (header_spelling style)
 header_is style = header_by style.order style.unit
+
+header_length : (style : Style) → length (header_spelling style) ≡ 24
+header_length style = (header_is style).size
 
 number_size : (order : Order) (size n : ℕ) → length (number_bytes order size n) ≡ size
 unfolding number_bytes
@@ -104,3 +108,15 @@ written_records style records h =
 pub written_refusal : (style : Style) (records : List Record) → AllByRecursion (HasSpelling style) records → first_refusal (capture_spelling style records) ≡ None
 written_refusal style records h =
     (holds_one (capture_spelling style records) _ records _ None (holds_whole (capture_spelling style records)) (style, written_is style records h)).1
+
+-- if the front of a slice is the canonical spelling of a file header and the rest is unchanged, the header was written
+pub written_header : (style : Style) (old new : List ℕ) → 24 ≤ length old → take 24 new ≡ header_spelling style → drop 24 new ≡ drop 24 old → Writes (header_spelling style) old new (Ok 24)
+written_header style old new room spelled rest =
+    let size = header_length style in
+    (sym size, omega (arith, size), sym (take-append-drop 24 new) ∙ (ap (λ (b : List ℕ). b ++ drop 24 new) spelled ∙ ap (λ (b : List ℕ). header_spelling style ++ b) (rest ∙ ap (λ (n : ℕ). drop n old) (sym size))))
+
+-- if a slice is shorter than a file header and is unchanged, nothing was written
+pub no_header : (style : Style) (old : List ℕ) → length old < 24 → Writes (header_spelling style) old old (Err (record { need = 24; found = length old }))
+no_header style old short =
+    let size = header_length style in
+    (ap (λ (n : ℕ). record { need = n; found = length old }) (sym size), omega (arith, size), refl)

@@ -4,4 +4,5 @@ pub mod Readers
 pub mod Reading
 pub mod Frame
 pub mod Pieces
+pub mod Parts
 pub mod state

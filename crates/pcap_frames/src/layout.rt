@@ -3,7 +3,8 @@
 
 ghost use Rattle.std.specs.Prelude.{◌≡◌, ◌+◌, ◌<◌, ◌≤◌, ◌^◌, ℕ, length, pos, true, false, None, Some, IfSome, IsSome};
 ghost use Rattle.pcap_frames.specs.Capture.{record_of};
-ghost use Rattle.pcap_frames.specs.Readers.{shown};
+ghost use Rattle.pcap_frames.specs.state.Reading.{IsRecordSize};
+ghost use Rattle.pcap_frames.specs.Readers.{Views};
 ghost use Rattle.pcap_frames.specs.Layout.{number_at, style_at as style_of_bytes, file_header, first_refused, certain as certain_of, file_refusal as refusal_of_file, record_refusal as refusal_of_record, instant, IsRecordTime};
 
 use crate::numbers::{u16_at, u32_at};
@@ -125,10 +126,7 @@ pub fn record_refusal(order: Order, start: u64, bytes: &[u8]) -> Option<Refusal>
 /// refused.
 #[tactic(auto, unfolding(crate::specs::Layout::record_refusal))]
 pub fn whole_size(order: Order, bytes: &[u8]) -> Option<usize>
-    ensures size { IfSome result (λ size. size ≡ 16 + number_at order 8 4 bytes.now) }
-    ensures limit { IfSome result (λ size. size ≤ 262160) }
-    ensures whole { IfSome result (λ size. size ≤ length bytes.now) }
-    ensures none { result ≡ None → (start : ℕ) → IsSome (refusal_of_record order start bytes.now) }
+    ensures { IsRecordSize order bytes.now result }
 {
     if bytes.len() < RECORD_HEADER {
         return None;
@@ -153,8 +151,7 @@ pub fn certain(refusal: Option<Refusal>) -> Option<Refusal>
 
 /// The instant of a record in nanoseconds: the seconds plus the fraction, even if the fraction is one second or more.
 pub fn arrival_of(unit: Unit, seconds: u32, fraction: u32) -> i64
-    ensures instant { result ≡ pos (instant unit seconds fraction) }
-    ensures time { IsRecordTime result }
+    ensures { result ≡ pos (instant unit seconds fraction) }
 {
     let scale = match unit {
         Unit::Micro => 1000,
@@ -167,8 +164,7 @@ pub fn arrival_of(unit: Unit, seconds: u32, fraction: u32) -> i64
 /// The record that these bytes encode. The bytes begin with the record's header.
 pub fn view(style: Style, bytes: &[u8]) -> RecordView<'_>
     requires { 16 ≤ length bytes.now }
-    ensures exact { shown result ≡ record_of style bytes.now }
-    ensures time { IsRecordTime result.arrival }
+    ensures { Views (Some (record_of style bytes.now)) (Some result) }
 {
     let seconds = u32_at(style.order, bytes, 0);
     let fraction = u32_at(style.order, bytes, 4);

@@ -1,8 +1,9 @@
 //! Reads whole captures in memory.
 
-ghost use Rattle.std.specs.Prelude.{◌≡◌, ◌+◌, ◌≤◌, ◌^◌, ◌++◌, ℕ, List, None, length, map, IfOk, OnOk};
+ghost use Rattle.std.specs.Prelude.{◌≡◌, ◌+◌, ◌≤◌, ◌^◌, None, length, map, IfOk};
 ghost use Rattle.pcap_frames.specs.Capture.{Record, first_refusal, style_of, whole_records};
-ghost use Rattle.pcap_frames.specs.Reading.{HasRead, held, taken};
+ghost use Rattle.pcap_frames.specs.Reading.{held, taken};
+ghost use Rattle.pcap_frames.specs.state.Reading.{KeepsAll, KeepsHeld};
 ghost use Rattle.pcap_frames.specs.Pieces.{joined, kept};
 
 use crate::reader::Reader;
@@ -62,9 +63,7 @@ fn read_piece(
 ) -> Result<(), NoMemory>
     requires bounded { taken reader.old + length piece.now ≤ 2 ^ 62 }
     requires free { held reader.old ≡ None }
-    ensures read { OnOk result ((bytes : List ℕ) → HasRead reader.old bytes (map kept records.old.items) → HasRead reader.new (bytes ++ piece.now) (map kept records.new.items)) }
-    ensures free { OnOk result (held reader.new ≡ None) }
-    ensures bounded { taken reader.new ≤ taken reader.old + length piece.now }
+    ensures { KeepsAll reader.old (map kept records.old.items) piece.now result reader.new (map kept records.new.items) }
 {
     let mut used = 0;
     while used < piece.len() {
@@ -85,9 +84,7 @@ fn keep_held(
     reader: &mut Reader,
     records: &mut Vec<KeptRecord>,
 ) -> Result<(), NoMemory>
-    ensures read { OnOk result ((bytes : List ℕ) → HasRead reader.old bytes (map kept records.old.items) → HasRead reader.new bytes (map kept records.new.items)) }
-    ensures free { OnOk result (held reader.new ≡ None) }
-    ensures taken { taken reader.new ≡ taken reader.old }
+    ensures { KeepsHeld reader.old (map kept records.old.items) result reader.new (map kept records.new.items) }
 {
     let Some(record) = reader.held() else {
         return Ok(());

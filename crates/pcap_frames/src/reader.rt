@@ -5,9 +5,9 @@ ghost use Rattle.std.specs.Result.{result_err};
 ghost use Rattle.pcap_frames.specs.Layout.{IsRecordTime, record_refusal};
 ghost use Rattle.pcap_frames.specs.Capture.{Record, Holds, style_of};
 ghost use Rattle.pcap_frames.specs.Readers.{Ends, Feeds, Releases, Views, shown};
-ghost use Rattle.pcap_frames.specs.state.Readers.{Accepts, Advances, Steps};
-ghost use Rattle.pcap_frames.specs.Reading.{HasRead, IsNext, IsPart, Passes, held, meaning, nothing_read, progress, taken, with_part};
-ghost use Rattle.pcap_frames.specs.state.Reading.{Fills, IsBefore, ending};
+ghost use Rattle.pcap_frames.specs.state.Readers.{Advances};
+ghost use Rattle.pcap_frames.specs.Reading.{HasRead, IsNext, Passes, held, meaning, nothing_read, progress, taken, with_part};
+ghost use Rattle.pcap_frames.specs.state.Reading.{CanFill, Fills, IsBefore, TakesHeader, ending};
 ghost use Rattle.std.specs.Prelude.{ℕ, List, IfSome, IsSome, is_some, ◌≡◌, ◌+◌, ◌<◌, ◌≤◌, ◌^◌, ◌++◌, false, length, take, None, Some, IfOk, [], vec_capacity};
 
 use crate::layout::{self, FILE_HEADER, RECORD_HEADER, RECORD_LIMIT};
@@ -80,18 +80,10 @@ impl Reader {
     {
         match self.refusal {
             Some(refusal) => Err(refusal),
-            None => self.advance(piece),
-        }
-    }
-
-    /// Takes bytes up to the end of one record or of the piece.
-    fn advance(&mut self, piece: &[u8]) -> Result<usize, Refusal>
-        requires { Accepts (progress self.old) piece.now }
-        ensures { Advances (progress self.old) piece.now result (progress self.new) }
-    {
-        match self.style {
-            Some(style) => self.feed_record(style, piece),
-            None => self.feed_first(piece),
+            None => match self.style {
+                Some(style) => self.feed_record(style, piece),
+                None => self.feed_first(piece),
+            },
         }
     }
 
@@ -113,9 +105,7 @@ impl Reader {
     /// Takes bytes up to the end of the file header.
     fn feed_header(&mut self, piece: &[u8]) -> Result<usize, Refusal>
         requires { IsBefore None self.old piece.now }
-        ensures some { IfOk result (λ n. 0 < length piece.now → 0 < n) }
-        ensures end { IfOk result (λ n. n < length piece.now → IsSome self.new.style) }
-        ensures steps { Steps (progress self.old) piece.now result (progress self.new) }
+        ensures { TakesHeader self.old piece.now result self.new }
     {
         let taken = gather(&mut self.part, FILE_HEADER, piece);
         let header = self.part.as_slice();
@@ -270,11 +260,8 @@ impl Reader {
 
 /// Moves bytes from the front of the piece to `part`, up to the end of the record, and returns how many bytes it moved.
 fn fill_record(order: Order, start: u64, part: &mut Vec<u8>, piece: &[u8]) -> Result<usize, Refusal>
-    requires part { IsPart order start part.old.items }
-    requires room { 262160 ≤ vec_capacity part.old }
-    requires bounded { start + length part.old.items + length piece.now ≤ 2 ^ 62 }
-    ensures fills { Fills order start part.old.items piece.now result part.new.items }
-    ensures room { 262160 ≤ vec_capacity part.new }
+    requires { CanFill order start part.old.items piece.now (vec_capacity part.old) }
+    ensures { Fills order start part.old.items piece.now result part.new.items (vec_capacity part.new) }
 {
     let header = gather(part, RECORD_HEADER, piece);
     let refusal = layout::record_refusal(order, start, part.as_slice());

@@ -1,8 +1,9 @@
 //! Writes captures in their canonical spelling.
 
-ghost use Rattle.std.specs.Prelude.{◌≡◌, ◌+◌, ◌≤◌, ◌<◌, ◌≤ℤ◌, ◌<ℤ◌, ◌*◌, ◌/◌, ◌%◌, ◌^◌, ◌++◌, ◌↔◌, List, ℕ, pos, nat_abs, length, take, drop, IsOk, IfOk, IfErr, OnOk, OnErr};
+ghost use Rattle.std.specs.Prelude.{◌≡◌, ◌≤ℤ◌, ◌<ℤ◌, ◌*◌, ◌%◌, ◌^◌, ◌++◌, List, ℕ, pos, nat_abs, length};
+ghost use Rattle.avtp_base.specs.Rows.{Writes};
 ghost use Rattle.pcap_frames.specs.Layout.{scale};
-ghost use Rattle.pcap_frames.specs.Capture.{header_spelling, record_spelling};
+ghost use Rattle.pcap_frames.specs.Capture.{HasSpelling, header_spelling, record_spelling};
 
 use crate::layout::{FILE_HEADER, MAGIC_MICRO, MAGIC_NANO, RECORD_HEADER, RECORD_LIMIT};
 use crate::numbers::{put_u16, put_u32};
@@ -16,12 +17,7 @@ use avtp_base::octets::write_front;
 /// The call returns `Room` if and only if `out` has fewer than 24 bytes. If the call returns `Room`, nothing is
 /// written.
 pub fn write_header(out: &mut [u8], style: Style) -> Result<usize, Room>
-    ensures fits { IsOk result ↔ (24 ≤ length out.old) }
-    ensures size { IfOk result (λ n. n ≡ 24) }
-    ensures spelled { OnOk result (take 24 out.new ≡ header_spelling style) }
-    ensures rest { OnOk result (drop 24 out.new ≡ drop 24 out.old) }
-    ensures room { IfErr result (λ room. room ≡ record { need = 24; found = length out.old }) }
-    ensures untouched { OnErr result (out.new ≡ out.old) }
+    ensures { Writes (header_spelling style) out.old out.new result }
 {
     let found = out.len();
     if found < FILE_HEADER {
@@ -58,16 +54,8 @@ pub fn write_record(
     orig_len: u32,
     bytes: &[u8],
 ) -> Result<usize, Room>
-    requires begun { pos 0 ≤ℤ arrival }
-    requires ended { arrival <ℤ pos (2 ^ 32 * 1000000000) }
-    requires whole { nat_abs arrival % scale style.unit ≡ 0 }
-    requires limit { length bytes.now ≤ 262144 }
-    ensures fits { IsOk result ↔ (16 + length bytes.now ≤ length out.old) }
-    ensures size { IfOk result (λ n. n ≡ 16 + length bytes.now) }
-    ensures spelled { IfOk result (λ n. take n out.new ≡ record_spelling style (record { arrival = arrival; orig_len = orig_len; bytes = bytes.now })) }
-    ensures rest { IfOk result (λ n. drop n out.new ≡ drop n out.old) }
-    ensures room { IfErr result (λ room. room ≡ record { need = 16 + length bytes.now; found = length out.old }) }
-    ensures untouched { OnErr result (out.new ≡ out.old) }
+    requires { HasSpelling style (record { arrival = arrival; orig_len = orig_len; bytes = bytes.now }) }
+    ensures { Writes (record_spelling style (record { arrival = arrival; orig_len = orig_len; bytes = bytes.now })) out.old out.new result }
 {
     let header = record_header(style, arrival, bytes.len() as u32, orig_len);
     write_front(out, &header, bytes)

@@ -13,7 +13,7 @@ use Rattle.pcapng_frames.specs.declared.interface.Interface.{Interface}
 use Rattle.pcap_frames.specs.declared.style.Order.{Order}
 use Rattle.pcapng_frames.specs.Blocks.{Place, Contents, refusal_here, refusal_by, order_or_little, block_refused, option_refused, trailer_refused, ends, after_any, size_of_any, and_then, after_trailer}
 use Rattle.pcapng_frames.specs.Reading.{Reading, HasRead, passed_by, held_by, after_all, contents_past, contents_at, rest_of, rest_by}
-use Rattle.pcapng_frames.specs.state.Reading.{Takes, HasEntered, IsAt, IsReader, IsReading, IsWhole, IsPart, IsAhead, IsFree, IsUnpacked, HasHead, is_inside, place_of, packet_of, part_at, need_by, block_need, option_need}
+use Rattle.pcapng_frames.specs.state.Reading.{Takes, IsAt, IsReader, IsReading, IsWhole, IsPart, IsAhead, IsFree, IsUnpacked, HasHead, is_inside, place_of, packet_of, part_at, need_by, block_need, option_need}
 use Rattle.pcapng_frames.proofs.Moves.{reading, going, gathered, past_none}
 use Rattle.pcapng_frames.proofs.Options.{at_option_place, at_trailer_place, trailer_moves}
 use Rattle.pcapng_frames.proofs.Blocks.{at_block, block_moves, block_stops}
@@ -184,22 +184,18 @@ block_ends c d interfaces others part tail front next clear whole refusal none p
 }
 
 -- once the needed bytes of a block were taken, the reader is before an option or a trailer, and has taken no byte of it
-pub inside_part : (d : Cursor) (others : List Interface) (next clear front : List ℕ) (passed : ℕ) → HasEntered d front passed → IfSome d.interface (λ i. length others < 256) → clear ≡ []
+pub inside_part : (d : Cursor) (others : List Interface) (next clear : List ℕ) → is_inside d.stage ≡ true → IsAhead d.stage d.skip d.left d.total → IsUnpacked d.stage d.packet → IfSome d.interface (λ i. length others < 256) → clear ≡ []
     → IsPart (place_of d others next) d.skip (part_at d.stage next clear)
-inside_part d others next clear front passed entered room empty =
+inside_part d others next clear inside ahead unpacked room empty =
     let p : Place = place_of d others next in
-    let none : part_at d.stage next clear ≡ [] = part_inside d.stage next clear entered.inside ∙ empty in
+    let none : part_at d.stage next clear ≡ [] = part_inside d.stage next clear inside ∙ empty in
     record {
       accepted = ap (refusal_here p) none ∙ none_refused p;
       partial = omega (arith, ap length none, ap (need_by d.stage d.order) none, need_some d.stage d.order);
-      ahead = entered.ahead;
+      ahead = ahead;
       room = room;
-      free = inside_free d.stage d.packet next d.interface entered.inside entered.unpacked;
+      free = inside_free d.stage d.packet next d.interface inside unpacked;
     }
-
-pub room_less : (interface : Option Interface) (n m : ℕ) → m ≤ n → IfSome interface (λ i. n < 256) → IfSome interface (λ i. m < 256)
-room_less None n m less h = tt
-room_less (Some i) n m less h = omega arith
 
 pub inside_size : (d : Cursor) (next clear : List ℕ) → is_inside d.stage ≡ true → clear ≡ [] → length (part_at d.stage next clear) ≡ 0
 inside_size d next clear inside empty = ap length (part_inside d.stage next clear inside ∙ empty)
@@ -304,11 +300,6 @@ part_option c interfaces part tail is b =
       room = b.room;
       free = option_free c.stage (packet_of c.packet part) c.interface is (packet_none c.packet part b.packet);
     }
-
-pub room_same : (a b : Option Interface) (n : ℕ) → is_some a ≡ is_some b → IfSome b (λ i. n < 256) → IfSome a (λ i. n < 256)
-room_same None b n e h = tt
-room_same (Some i) None n e h = absurd (cc)
-room_same (Some i) (Some j) n e h = omega arith
 
 -- `tail` are the bytes taken of a trailer that is not complete.
 pub record IsTrailerPart (c : Cursor) (interfaces : List Interface) (tail : List ℕ) : Type 0 where
@@ -419,19 +410,19 @@ gives_up p q skip after part clear bytes whole gone refusal records none is free
 
 -- ---- how far a reader is in a block
 
-pub block_begun : {c : Cursor} {interfaces : List Interface} {part tail piece : List ℕ} {whole : Bool} {refusal : Option Refusal} {n m k : ℕ} → IsReader c interfaces part tail whole refusal n m k
+pub block_begun : {c : Cursor} {interfaces : List Interface} {part tail piece : List ℕ} {whole : Bool} {refusal : Option Refusal} {n m : ℕ} → IsReader c interfaces part tail whole refusal n m
     → IsAt stage.Block (reading (place_of c interfaces part) c.skip (part_at c.stage part tail) whole refusal) piece → IsBlockPart c interfaces part
-block_begun {c} {interfaces} {part} {tail} {piece} {whole} {refusal} {n} {m} {k} reader at =
+block_begun {c} {interfaces} {part} {tail} {piece} {whole} {refusal} {n} {m} reader at =
     block_part c interfaces part tail at.stage (is_part refusal whole (place_of c interfaces part) c.skip (part_at c.stage part tail) at.going.accepted at.going.partial reader.reading)
 
-pub option_begun : {c : Cursor} {interfaces : List Interface} {part tail piece : List ℕ} {whole : Bool} {refusal : Option Refusal} {n m k : ℕ} → IsReader c interfaces part tail whole refusal n m k
+pub option_begun : {c : Cursor} {interfaces : List Interface} {part tail piece : List ℕ} {whole : Bool} {refusal : Option Refusal} {n m : ℕ} → IsReader c interfaces part tail whole refusal n m
     → IsAt stage.Option (reading (place_of c interfaces part) c.skip (part_at c.stage part tail) whole refusal) piece → IsOptionPart c interfaces tail
-option_begun {c} {interfaces} {part} {tail} {piece} {whole} {refusal} {n} {m} {k} reader at =
+option_begun {c} {interfaces} {part} {tail} {piece} {whole} {refusal} {n} {m} reader at =
     option_part c interfaces part tail at.stage (is_part refusal whole (place_of c interfaces part) c.skip (part_at c.stage part tail) at.going.accepted at.going.partial reader.reading)
 
-pub trailer_begun : {c : Cursor} {interfaces : List Interface} {part tail piece : List ℕ} {whole : Bool} {refusal : Option Refusal} {n m k : ℕ} → IsReader c interfaces part tail whole refusal n m k
+pub trailer_begun : {c : Cursor} {interfaces : List Interface} {part tail piece : List ℕ} {whole : Bool} {refusal : Option Refusal} {n m : ℕ} → IsReader c interfaces part tail whole refusal n m
     → IsAt stage.Trailer (reading (place_of c interfaces part) c.skip (part_at c.stage part tail) whole refusal) piece → IsTrailerPart c interfaces tail
-trailer_begun {c} {interfaces} {part} {tail} {piece} {whole} {refusal} {n} {m} {k} reader at =
+trailer_begun {c} {interfaces} {part} {tail} {piece} {whole} {refusal} {n} {m} reader at =
     trailer_part c interfaces part tail at.stage (is_part refusal whole (place_of c interfaces part) c.skip (part_at c.stage part tail) at.going.accepted at.going.partial reader.reading)
 
 -- if a reader holds a packet, it has no refusal

@@ -1,6 +1,6 @@
 -- A packet that is lent.
-use Rattle.std.proofs.Common.{◌≡◌, ℕ, ℤ, ◌+◌, ◌-◌, ◌≤◌, Bool, true, false, List, [], ◌∷◌, ◌++◌, length, drop, take, Option, Some, None, Ok, IsSome, is_some, inl, inr, refl, ap, sym, subst, ◌∙◌, arith, append_assoc, length-append, length-drop}
-use Rattle.std.specs.Prelude.{IfSome, is_none, option_to_list}
+use Rattle.std.proofs.Common.{◌≡◌, ℕ, ℤ, ◌+◌, ◌-◌, ◌≤◌, Bool, true, false, List, [], ◌∷◌, ◌++◌, length, drop, take, Option, Some, None, Ok, IsSome, is_some, inl, inr, refl, ap, sym, ◌∙◌, arith, append_assoc, length-append, length-drop}
+use Rattle.std.specs.Prelude.{is_none, option_to_list}
 use Rattle.std.proofs.lemmas.Bool.Decides.{nat_tests}
 use Rattle.std.proofs.lemmas.List.{append-nil, drop-append-le, length-take-le, take_all, take-append-drop}
 use Rattle.avtp_base.specs.declared.refusal.Refusal.{Refusal}
@@ -21,7 +21,7 @@ use Rattle.pcapng_frames.specs.Blocks.{Place, after_any, after_block, after_trai
 use Rattle.pcapng_frames.specs.Reading.{IsNext, IsPacketBlock, Reading, after_all, contents_at, contents_past, held, held_by, meaning, passed_by, passing, progress, rest_of, taken, with_block}
 use Rattle.pcapng_frames.specs.state.Reading.{BeginsPacket, IsReading, Takes}
 use Rattle.pcapng_frames.proofs.Blocks.{at_block, at_block_rows, block_stays, cut_body, next_at_block, none_in_block, place_stays, size_at_block, size_stays}
-use Rattle.pcapng_frames.proofs.Feeding.{ahead_block, gives_up, held_whole, holding, is_part, is_reading, none_refused, whole_by}
+use Rattle.pcapng_frames.proofs.Feeding.{gives_up, held_whole, holding, is_part, is_reading, none_refused, whole_by}
 use Rattle.pcapng_frames.proofs.Moves.{gathered, going, goes_on, moves, past_none}
 use Rattle.pcapng_frames.proofs.Places.{unroll}
 use Rattle.pcapng_frames.proofs.Options.{at_trailer_place, trailer_moves}
@@ -299,25 +299,6 @@ next_releases r block next =
     }
 
 -- ---- the reader's invariant
-
--- if a reader before a block has no refusal, it holds no packet and has nothing to skip
-pub free_before : (refusal : Option Refusal) (whole : Bool) (p : Place) (skip : ℕ) (part : List ℕ) → refusal ≡ None → p.stage ≡ stage.Block → IsReading refusal whole p skip part → (whole ≡ false) × (skip ≡ 0)
-free_before (Some r) whole p skip part none is h = absurd cc
-free_before None true p skip part none is h = absurd (let no : stage.Block ≡ stage.Trailer = sym is ∙ h.at_trailer in cc)
-free_before None false p skip part none is h = (refl, ahead_block p.stage skip p.left p.total is h.ahead)
-
-pub ahead_next : (r : Reading) (order : Order) (piece : List ℕ) (o : Option ℕ) → r.refusal ≡ None → (r.whole ≡ false) × (r.skip ≡ 0) → r.place.stage ≡ stage.Block → r.part ≡ [] → r.place.order ≡ Some order
-    → IfSome o (λ size. IsPacketBlock order r.place.interfaces (take size piece)) → IfSome o (λ size. IsNext r (take size piece))
-ahead_next r order piece None accepted free before untaken is ahead = tt
-ahead_next r order piece (Some size) accepted free before untaken is ahead = record {
-  accepted = accepted;
-  free = free.0;
-  before = before;
-  ready = free.1;
-  untaken = untaken;
-  opened = ap is_some is;
-  packet = subst (λ (x : Order). IsPacketBlock x r.place.interfaces (take size piece)) (sym (ap order_or_little is)) ahead;
-}
 
 -- after the block of the next packet was skipped, the reader's invariant holds
 pub still_before : (r : Reading) (block : List ℕ) → IsNext r block → IsReading r.refusal r.whole r.place r.skip r.part → IsReading r.refusal r.whole (passing r block).place r.skip r.part

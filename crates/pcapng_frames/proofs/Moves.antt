@@ -61,10 +61,6 @@ pub stops : (p : Place) (part more : List ℕ) (r : Refusal) → refusal_here p 
 stops p part more r e = past_none p part more ∙ (unroll p (part ++ more)
     ∙ ap (λ (x : Option Refusal). refused_or x (if nat_lt (length (part ++ more)) (size_here p (part ++ more)) then cut_short p (part ++ more) else and_then (packet_by p.stage p.packet) (contents_at (next_place p (part ++ more)) (drop (size_here p (part ++ more)) (part ++ more))))) e)
 
--- two successive steps that take `x` and `y` together take `x ++ y`
-pub takes_twice : (a b c : Reading) (x y : List ℕ) → Takes a x b → Takes b y c → Takes a (x ++ y) c
-takes_twice a b c x y first second = record { same = λ more. ap (rest_of a) (append_assoc x y more) ∙ (first.same (y ++ more) ∙ second.same more) }
-
 -- a reader that takes bytes has read them, and has released no packet
 pub goes_on : (a b : Reading) (x : List ℕ) → Takes a x b → GoesOn (progress a) x (progress b)
 goes_on a b x t bytes records h = record { read = λ more. ap contents (append_assoc bytes x more) ∙ (h.read (x ++ more) ∙ ap (after_all records) (t.same more)) }

@@ -1,19 +1,19 @@
 -- Facts about numbers.
-use Rattle.std.proofs.Common.{◌≡◌, ℕ, ◌+◌, ◌-◌, ◌*◌, ◌/◌, ◌^◌, ◌≤◌, ◌<◌, ◌∙◌, sym, ap, true, ℤ, pos, List, length, drop, slice_index_or, is_some, IfSome, Option, Some, None, refl, arith, length-drop}
+use Rattle.std.proofs.Common.{◌≡◌, ℕ, ◌+◌, ◌-◌, ◌*◌, ◌/◌, ◌^◌, ◌≤◌, ◌<◌, ◌∙◌, sym, ap, ℤ, pos, to_z, of_z, w64, List, length, drop, Option, Some, None, refl, arith, length-drop}
 use Rattle.std.proofs.lemmas.List.{take_all}
 use Rattle.std.specs.Prelude.{int_lt, if◌then◌else◌}
 use Rattle.std.proofs.lemmas.Bool.Decides.{nat_tests}
 use Rattle.pcap_frames.specs.declared.style.Order.{Order}
-use Rattle.pcap_frames.specs.Layout.{number_at}
+use Rattle.pcap_frames.specs.Layout.{IsRecordTime, number_at}
 use Rattle.pcapng_frames.specs.declared.block.PacketHead.{PacketHead}
 use Rattle.pcapng_frames.specs.Blocks.{record_by}
-use Rattle.pcapng_frames.specs.state.Reading.{packet_of}
+use Rattle.pcapng_frames.specs.state.Reading.{packet_with}
 use Rattle.std.proofs.Math.Nat.{one-le-pow, div-eq_of_eq-mul_left, mul_assoc, mul-div-mul_right, div-le_self}
+use Rattle.std.proofs.lemmas.Int.{ints}
 use Rattle.std.proofs.lemmas.Nat.{pow-add}
-use Rattle.std.proofs.lemmas.List.Elements.{All-get_or}
 use Rattle.pcapng_frames.specs.declared.interface.Interface.{Interface}
-use Rattle.pcapng_frames.specs.Interface.{arrival_limit, arrival_of, instant, is_resolution, units}
-use Rattle.pcapng_frames.specs.state.Fields.{AllResolved}
+use Rattle.pcapng_frames.specs.Interface.{arrival_limit, arrival_of, instant, units}
+use Rattle.pcapng_frames.specs.Fields.{packet_arrival}
 
 -- a power of a positive number is positive
 pub power_some : (a k : ℕ) → 1 ≤ a → 1 ≤ a ^ k
@@ -70,17 +70,28 @@ microsecond_arrival interface x epoch unit early = in_time (instant interface x)
 pub microsecond_late : (interface : Interface) (x : ℕ) → interface.offset ≡ pos 0 → interface.resolution ≡ 6 → 4294967296000000 ≤ x → arrival_of interface x ≡ None
 microsecond_late interface x epoch unit late = out_of_time (instant interface x) (x * 1000) (microsecond_instant interface x epoch unit) (omega arith)
 
+-- a second has at least one unit
+pub units_some : (resolution : ℕ) → 1 ≤ units resolution
+units_some resolution = grind (arith, nat_tests, power_some 10 resolution, power_some 2 (resolution - 128))
+
 -- the instant of a 64-bit timestamp, in nanoseconds, is below 2^94
 pub time_limit : (x units : ℕ) → x < 2 ^ 64 → x * 1000000000 / units < 2 ^ 94
 time_limit x units h = omega (arith, div-le_self (x * 1000000000) units)
 
--- if the resolutions of all interfaces are accepted, the resolution of interface `id` is accepted
-pub one_resolved : (interfaces : List Interface) (id : ℕ) (d : Interface) → AllResolved interfaces → id < length interfaces → is_resolution (slice_index_or interfaces id d).resolution ≡ true
-one_resolved interfaces id d all h = All-get_or (λ (i : Interface). is_resolution i.resolution ≡ true) interfaces id d h all
+if_time : (t u : ℤ) → Some u ≡ (if int_lt t (pos 0) then None else if int_lt t arrival_limit then Some t else None) → IsRecordTime u
+if_time t u e = grind (arith, ints, nat_tests)
 
-pub packet_is : (head : Option PacketHead) (arrival : Option ℤ) (order : Order) (part : List ℕ) → is_some head ≡ is_some arrival → IfSome head (λ h. arrival ≡ Some (pos h.arrival)) → IfSome head (λ h. h.orig_len ≡ number_at order 24 4 part)
-    → length part ≡ 28 + number_at order 20 4 part → packet_of head part ≡ record_by arrival order part
-packet_is None None order part some e l size = refl
-packet_is None (Some t) order part some e l size = absurd (cc)
-packet_is (Some h) arrival order part some e l size =
-    rw (e, l, take_all (number_at order 20 4 part) (drop 28 part) (omega (arith, length-drop 28 part))) refl
+-- the arrival of a packet is a time that a record can have
+pub arrival_time : (order : Order) (interfaces : List Interface) (bytes : List ℕ) (t : ℤ) → Some t ≡ packet_arrival order interfaces bytes → IsRecordTime t
+unfolding packet_arrival
+arrival_time order interfaces bytes t e = if_time (instant _ _) t e
+
+-- a time that a record can have is not changed when it is stored in 64 bits
+pub stored_time : (t : ℤ) → IsRecordTime t → to_z w64 (of_z w64 t) ≡ t
+stored_time t h = omega (arith, ints, h.0, h.1)
+
+-- the fixed fields and the captured bytes of a packet give the packet of the block
+pub packet_is : (head : PacketHead) (arrival : Option ℤ) (order : Order) (part : List ℕ) → Some head.arrival ≡ arrival → head.orig_len ≡ number_at order 24 4 part → length part ≡ 28 + number_at order 20 4 part
+    → Some (packet_with head part) ≡ record_by arrival order part
+packet_is head arrival order part e l size =
+    rw (← e, l, take_all (number_at order 20 4 part) (drop 28 part) (omega (arith, length-drop 28 part))) refl

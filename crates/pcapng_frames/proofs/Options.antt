@@ -1,5 +1,5 @@
 -- Further bytes do not change what is known of an option or a trailer.
-use Rattle.std.proofs.Common.{◌≡◌, ℕ, ◌⊎◌, ◌&&◌, not, ◌+◌, ◌-◌, ◌≤◌, ◌<◌, Bool, true, false, nat_lt, nat_eq, if◌then◌else◌, List, [], ◌∷◌, ◌++◌, length, drop, slice_index, Option, Some, None, refl, ap, sym, ◌∙◌, arith, inl, inr, length-append}
+use Rattle.std.proofs.Common.{◌≡◌, ℕ, ◌⊎◌, ◌&&◌, not, ◌+◌, ◌-◌, ◌≤◌, ◌<◌, Bool, true, false, nat_lt, nat_eq, if◌then◌else◌, List, [], ◌∷◌, ◌++◌, length, drop, slice_index, Option, Some, None, IfSome, refl, ap, sym, ◌∙◌, arith, inl, inr, length-append}
 use Rattle.std.proofs.lemmas.Bool.{cases_lt}
 use Rattle.std.proofs.lemmas.Bool.Decides.{nat_tests}
 use Rattle.std.proofs.lemmas.List.{get_or_append_left, drop_at}
@@ -18,7 +18,8 @@ use Rattle.pcapng_frames.specs.Interface.{is_resolution}
 use Rattle.avtp_base.specs.declared.field.Field.{Field}
 use Rattle.pcapng_frames.specs.Blocks.{Place, order_or_little, described, size_of_option, size_here, next_place, next_by, refusal_here, option_refused, trailer_refused, refused_or, and_then, packet_by, cut_short, ends, short_at, after_trailer}
 use Rattle.pcapng_frames.specs.Reading.{contents_past, contents_at}
-use Rattle.pcapng_frames.specs.state.Reading.{IsResolved, option_need, value_need}
+use Rattle.pcapng_frames.specs.state.Fields.{IsResolved}
+use Rattle.pcapng_frames.specs.state.Reading.{option_need, value_need}
 use Rattle.pcapng_frames.proofs.Choices.{by_place, long_enough}
 use Rattle.pcapng_frames.proofs.Places.{unroll}
 use Rattle.pcapng_frames.proofs.Moves.{moves, stops, past_none}
@@ -237,6 +238,10 @@ pub option_resolved : (order : Order) (start left : ℕ) (interface : Option Int
 unfolding option_refused
 option_resolved order start left None bytes long whole h is = tt
 option_resolved order start left (Some interface) bytes long whole h is = resolved_by (option_code order bytes) (option_length order bytes) start left (length bytes) order interface bytes long (whole ∙ need_whole order bytes long) h is
+
+pub described_room : (order : Order) (code n : ℕ) (interface : Option Interface) (bytes : List ℕ) → IfSome interface (λ i. n < 256) → IfSome (described order code interface bytes) (λ i. n < 256)
+described_room order code n None bytes h = tt
+described_room order code n (Some interface) bytes h = omega arith
 
 need_by_code : (code len start left n : ℕ) (bytes : List ℕ) → 4 ≤ n → 4 ≤ left → first_refused start n (option_rows code len left bytes) ≡ None → value_need code ≤ (if nat_eq code 0 then 4 + (left - 4) else 4 + padded len)
 need_by_code code len start left n bytes long some h = grind (arith, nat_tests)

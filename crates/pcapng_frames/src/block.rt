@@ -31,7 +31,7 @@ pub enum Stage {
 #[derive(Clone, Copy, Debug, PartialEq, Eq)]
 pub struct PacketHead {
     /// When the frame was captured, in nanoseconds since the epoch.
-    pub arrival: u64,
+    pub arrival: i64,
     /// The length in bytes of the frame on the wire.
     pub orig_len: u32,
 }

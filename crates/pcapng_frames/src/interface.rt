@@ -37,11 +37,9 @@ pub fn resolved(resolution: u8) -> bool
 }
 
 /// The number of units in a second.
-#[tactic(auto, using(crate::proofs::Numbers::power_some))]
 fn units_in(resolution: u8) -> u64
     requires { is_resolution resolution ≡ true }
-    ensures exact { result ≡ units resolution }
-    ensures some { 1 ≤ result }
+    ensures { result ≡ units resolution }
 {
     if resolution < 128 {
         10u64.pow(u32::from(resolution))
@@ -54,11 +52,10 @@ fn units_in(resolution: u8) -> u64
 ///
 /// Decimal units need no long division. If a unit is at least a nanosecond, it is a whole number of nanoseconds;
 /// otherwise a nanosecond is a whole number of units.
-#[tactic(auto, using(crate::proofs::Numbers::long_units, crate::proofs::Numbers::short_units, crate::proofs::Numbers::power_some, crate::proofs::Numbers::time_limit))]
+#[tactic(auto, using(crate::proofs::Numbers::long_units, crate::proofs::Numbers::short_units, crate::proofs::Numbers::power_some, crate::proofs::Numbers::units_some))]
 fn nanoseconds(resolution: u8, timestamp: u64) -> u128
     requires { is_resolution resolution ≡ true }
-    ensures exact { result ≡ timestamp * 1000000000 / units resolution }
-    ensures limit { result < 2 ^ 94 }
+    ensures { result ≡ timestamp * 1000000000 / units resolution }
 {
     if resolution >= 128 {
         u128::from(timestamp) * SECOND / u128::from(units_in(resolution))
@@ -70,7 +67,7 @@ fn nanoseconds(resolution: u8, timestamp: u64) -> u128
 }
 
 /// The instant of a timestamp, in nanoseconds, rounded down.
-#[tactic(auto, unfolding(crate::specs::Interface::instant))]
+#[tactic(auto, using(crate::proofs::Numbers::time_limit), unfolding(crate::specs::Interface::instant))]
 fn instant_of(interface: Interface, timestamp: u64) -> i128
     requires { is_resolution interface.resolution ≡ true }
     ensures { result ≡ instant interface timestamp }
@@ -81,16 +78,15 @@ fn instant_of(interface: Interface, timestamp: u64) -> i128
 
 /// The arrival of a packet, for any clock.
 #[inline(never)]
-fn any_arrival(interface: Interface, timestamp: u64) -> Option<u64>
+fn any_arrival(interface: Interface, timestamp: u64) -> Option<i64>
     requires { is_resolution interface.resolution ≡ true }
-    ensures exact { option_map pos result ≡ arrival_of interface timestamp }
-    ensures limit { IfSome result (λ t. t ≤ 2 ^ 62) }
+    ensures { result ≡ arrival_of interface timestamp }
 {
     let instant = instant_of(interface, timestamp);
     if instant < 0 || instant >= i128::from(ARRIVAL_LIMIT) {
         return None;
     }
-    Some(instant as u64)
+    Some(instant as i64)
 }
 
 /// The arrival of a packet, in nanoseconds. `None` if the arrival is before the epoch, or at least 2^32 seconds after
@@ -100,22 +96,21 @@ fn any_arrival(interface: Interface, timestamp: u64) -> Option<u64>
 /// from the epoch, one multiplication is enough.
 #[tactic(auto, using(crate::proofs::Numbers::nanosecond_arrival, crate::proofs::Numbers::microsecond_arrival, crate::proofs::Numbers::nanosecond_late, crate::proofs::Numbers::microsecond_late))]
 #[inline(always)]
-pub fn arrival(interface: Interface, timestamp: u64) -> Option<u64>
+pub fn arrival(interface: Interface, timestamp: u64) -> Option<i64>
     requires { is_resolution interface.resolution ≡ true }
-    ensures exact { option_map pos result ≡ arrival_of interface timestamp }
-    ensures limit { IfSome result (λ t. t ≤ 2 ^ 62) }
+    ensures { result ≡ arrival_of interface timestamp }
 {
     match interface.resolution {
         9 if interface.offset == 0 => {
             if timestamp < ARRIVAL_LIMIT {
-                Some(timestamp)
+                Some(timestamp as i64)
             } else {
                 None
             }
         }
         6 if interface.offset == 0 => {
             if timestamp < ARRIVAL_LIMIT / 1_000 {
-                Some(timestamp * 1_000)
+                Some((timestamp * 1_000) as i64)
             } else {
                 None
             }

@@ -4,16 +4,15 @@ ghost use Rattle.std.specs.Prelude.{◌≡◌, ◌+◌, ◌<◌, ◌≤◌, ◌^
 ghost use Rattle.std.specs.Int.{cast_signed, w64};
 ghost use Rattle.std.specs.Option.{option_map};
 ghost use Rattle.pcap_frames.specs.Layout.{number_at, IsRecordTime};
-ghost use Rattle.pcap_frames.specs.Readers.{shown};
+ghost use Rattle.pcap_frames.specs.Readers.{Views};
 ghost use Rattle.pcapng_frames.specs.state.Reading.{packet_with};
-ghost use Rattle.pcapng_frames.specs.Fields.{kind_of as kind_of_type, order_of_magic as order_of_number, packet_arrival as arrival_in, padded as padded_length, timestamp as timestamp_in};
-ghost use Rattle.pcapng_frames.specs.state.Fields.{AllResolved};
-ghost use Rattle.pcapng_frames.specs.Blocks.{kind_at as kind_in, order_at as order_in, order_or_little as order_or, record_by};
+ghost use Rattle.pcapng_frames.specs.Fields.{order_of_magic as order_of_number, packet_arrival as arrival_in, padded as padded_length};
+ghost use Rattle.pcapng_frames.specs.Blocks.{kind_at as kind_in, order_or_little as order_or, record_by};
 ghost use Rattle.pcapng_frames.specs.Reading.{IsPacketBlock};
-ghost use Rattle.pcapng_frames.specs.declared.block.Kind.TheVariants as kind;
 
 use crate::block::{Kind, PacketHead};
-use crate::interface::{self, Interface};
+use crate::interface;
+use crate::interfaces::Interfaces;
 use byteorder::{BigEndian, ByteOrder, LittleEndian};
 use pcap_frames::numbers::u32_at;
 use pcap_frames::{Order, RecordView};
@@ -30,9 +29,6 @@ pub const ENHANCED_PACKET: u32 = 6;
 const MAGIC: u32 = 0x1A2B_3C4D;
 
 const SWAPPED_MAGIC: u32 = 0x4D3C_2B1A;
-
-/// The greatest number of interfaces that a section may have.
-pub const INTERFACE_LIMIT: usize = 256;
 
 /// The greatest number of bytes that a packet may have.
 pub const PACKET_LIMIT: u32 = 262_144;
@@ -59,18 +55,6 @@ pub fn i64_at(order: Order, bytes: &[u8], offset: usize) -> i64
     }
 }
 
-/// The kind of a block of this type.
-pub fn kind_of(block_type: u32) -> Kind
-    ensures { result ≡ kind_of_type block_type }
-{
-    match block_type {
-        SECTION_HEADER => Kind::Section,
-        INTERFACE_DESCRIPTION => Kind::Interface,
-        ENHANCED_PACKET => Kind::Packet,
-        _ => Kind::Other,
-    }
-}
-
 /// The byte order of a section whose magic number, read as little-endian, is `magic`.
 pub fn order_of_magic(magic: u32) -> Option<Order>
     ensures { result ≡ order_of_number magic }
@@ -89,38 +73,29 @@ pub fn padded(len: u32) -> u64
     (u64::from(len) + 3) / 4 * 4
 }
 
-/// The timestamp of a packet.
-#[tactic(auto, unfolding(crate::specs::Fields::timestamp))]
-fn timestamp(order: Order, bytes: &[u8]) -> u64
-    requires { 20 ≤ length bytes.now }
-    ensures { result ≡ timestamp_in order bytes.now }
-{
-    u64::from(u32_at(order, bytes, 12)) * (1 << 32) + u64::from(u32_at(order, bytes, 16))
-}
-
 /// The arrival of a packet, if its timestamp is in range.
-#[tactic(auto, unfolding(crate::specs::Fields::packet_arrival), using(crate::proofs::Numbers::one_resolved))]
+#[tactic(auto, unfolding(crate::specs::Fields::packet_arrival, crate::specs::Fields::timestamp))]
 #[inline(always)]
-pub fn packet_arrival(order: Order, interfaces: &[Interface], bytes: &[u8]) -> Option<u64>
+pub fn packet_arrival(order: Order, interfaces: &Interfaces, bytes: &[u8]) -> Option<i64>
     requires stands { 20 ≤ length bytes.now }
     requires known { number_at order 8 4 bytes.now < length interfaces.now }
-    requires resolved { AllResolved interfaces.now }
-    ensures exact { option_map pos result ≡ arrival_in order interfaces.now bytes.now }
-    ensures limit { IfSome result (λ t. t ≤ 2 ^ 62) }
+    ensures { result ≡ arrival_in order interfaces.now bytes.now }
 {
-    let interface = interfaces[u32_at(order, bytes, 8) as usize];
-    interface::arrival(interface, timestamp(order, bytes))
+    let interface = interfaces.at(u32_at(order, bytes, 8) as usize);
+    // The high half of the timestamp is stored first, in either byte order.
+    let high = u64::from(u32_at(order, bytes, 12));
+    let low = u64::from(u32_at(order, bytes, 16));
+    interface::arrival(interface, high * (1 << 32) + low)
 }
 
 /// The packet that has these fixed fields; its captured bytes follow the first 28 bytes of `part`.
 pub fn view(packet: PacketHead, part: &[u8]) -> RecordView<'_>
     requires whole { 28 ≤ length part.now }
-    requires limit { packet.arrival ≤ 2 ^ 62 }
-    ensures exact { shown result ≡ packet_with packet part.now }
-    ensures time { IsRecordTime result.arrival }
+    requires time { IsRecordTime packet.arrival }
+    ensures { Views (Some (packet_with packet part.now)) (Some result) }
 {
     RecordView {
-        arrival: instant(packet.arrival),
+        arrival: packet.arrival,
         orig_len: packet.orig_len,
         bytes: &part[PACKET_HEAD..],
     }
@@ -128,11 +103,9 @@ pub fn view(packet: PacketHead, part: &[u8]) -> RecordView<'_>
 
 /// The packet in this block.
 #[inline(always)]
-pub fn packet_view<'a>(order: Order, interfaces: &[Interface], block: &'a [u8]) -> RecordView<'a>
-    requires packet { IsPacketBlock order interfaces.now block.now }
-    requires resolved { AllResolved interfaces.now }
-    ensures exact { record_by (arrival_in order interfaces.now block.now) order block.now ≡ Some (shown result) }
-    ensures time { IsRecordTime result.arrival }
+pub fn packet_view<'a>(order: Order, interfaces: &Interfaces, block: &'a [u8]) -> RecordView<'a>
+    requires { IsPacketBlock order interfaces.now block.now }
+    ensures { Views (record_by (arrival_in order interfaces.now block.now) order block.now) (Some result) }
 {
     // In each of the two calls, the compiler knows the byte order.
     match order {
@@ -143,30 +116,19 @@ pub fn packet_view<'a>(order: Order, interfaces: &[Interface], block: &'a [u8]) 
 
 /// The packet in this block, in a byte order that the compiler knows.
 #[inline(always)]
-fn view_in<'a>(order: Order, interfaces: &[Interface], block: &'a [u8]) -> RecordView<'a>
-    requires packet { IsPacketBlock order interfaces.now block.now }
-    requires resolved { AllResolved interfaces.now }
-    ensures exact { record_by (arrival_in order interfaces.now block.now) order block.now ≡ Some (shown result) }
-    ensures time { IsRecordTime result.arrival }
+fn view_in<'a>(order: Order, interfaces: &Interfaces, block: &'a [u8]) -> RecordView<'a>
+    requires { IsPacketBlock order interfaces.now block.now }
+    ensures { Views (record_by (arrival_in order interfaces.now block.now) order block.now) (Some result) }
 {
     let Some(arrival) = packet_arrival(order, interfaces, block) else {
         unreachable!()
     };
     let captured = u32_at(order, block, 20) as usize;
     RecordView {
-        arrival: instant(arrival),
+        arrival,
         orig_len: u32_at(order, block, 24),
         bytes: &block[PACKET_HEAD..PACKET_HEAD + captured],
     }
-}
-
-/// Converts a number of nanoseconds to a signed number.
-fn instant(nanoseconds: u64) -> i64
-    requires { nanoseconds ≤ 2 ^ 62 }
-    ensures exact { result ≡ pos nanoseconds }
-    ensures time { IsRecordTime result }
-{
-    nanoseconds as i64
 }
 
 /// The byte order of the section; before the first section, little-endian.
@@ -184,13 +146,10 @@ pub fn kind_at(order: Option<Order>, bytes: &[u8]) -> Kind
     requires { 4 ≤ length bytes.now }
     ensures { result ≡ kind_in order bytes.now }
 {
-    kind_of(u32_at(order_or_little(order), bytes, 0))
-}
-
-/// The byte order of the section header that the bytes begin with.
-pub fn section_order(bytes: &[u8]) -> Order
-    requires { 12 ≤ length bytes.now }
-    ensures { result ≡ order_in kind.Section None bytes.now }
-{
-    order_or_little(order_of_magic(u32_at(Order::Little, bytes, 8)))
+    match u32_at(order_or_little(order), bytes, 0) {
+        SECTION_HEADER => Kind::Section,
+        INTERFACE_DESCRIPTION => Kind::Interface,
+        ENHANCED_PACKET => Kind::Packet,
+        _ => Kind::Other,
+    }
 }

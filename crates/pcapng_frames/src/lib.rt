@@ -3,6 +3,7 @@
 
 mod block;
 mod interface;
+mod interfaces;
 mod layout;
 mod reader;
 mod refusals;

@@ -3,13 +3,13 @@
 ghost use Rattle.std.specs.Prelude.{ℕ, List, IfSome, IsSome, ◌⊎◌, ◌↔◌, is_some, ◌≡◌, ◌+◌, ◌<◌, ◌≤◌, ◌^◌, false, length, take, None, Some, Ok, IfOk, [], vec_capacity};
 ghost use Rattle.pcap_frames.specs.Layout.{IsRecordTime};
 ghost use Rattle.pcap_frames.specs.Readers.{Ends, Feeds, Releases, Views, shown};
-ghost use Rattle.pcap_frames.specs.state.Readers.{Accepts, IsSure, Steps};
+ghost use Rattle.pcap_frames.specs.state.Readers.{Accepts, Advances, IsSure};
 ghost use Rattle.pcapng_frames.specs.declared.block.Stage.TheVariants as stage;
 ghost use Rattle.pcapng_frames.specs.Reading.{HasRead, IsNext, held, meaning, nothing_read, passing, progress, taken, with_block};
-ghost use Rattle.pcapng_frames.specs.state.Reading.{IsAt, IsGoing, lacks};
+ghost use Rattle.pcapng_frames.specs.state.Reading.{IsAt, IsGoing, TakesSome, lacks};
 
 use crate::block::{Cursor, Stage};
-use crate::interface::Interface;
+use crate::interfaces::Interfaces;
 use crate::{layout, refusals, steps};
 use avtp_base::rows::cut_off;
 use avtp_base::{Field, NoMemory, Refusal};
@@ -34,7 +34,7 @@ const TAIL_ROOM: usize = 12;
 pub struct Ng {
     cursor: Cursor,
     /// The section's interfaces.
-    interfaces: Vec<Interface>,
+    interfaces: Interfaces,
     /// The bytes held of the block: its fixed fields, and the captured bytes of a packet.
     part: Vec<u8>,
     /// The bytes taken of an option or a trailer.
@@ -51,9 +51,9 @@ impl Model for Ng {
 
     ghost Value = { Reading };
 
-    ghost view = { λ r. record { place = place_of r.cursor r.interfaces.items r.part.items; skip = r.cursor.skip; part = part_at r.cursor.stage r.part.items r.tail.items; whole = r.whole; refusal = r.refusal } };
+    ghost view = { λ r. record { place = place_of r.cursor r.interfaces r.part.items; skip = r.cursor.skip; part = part_at r.cursor.stage r.part.items r.tail.items; whole = r.whole; refusal = r.refusal } };
 
-    ghost invariant = { λ r. IsReader r.cursor r.interfaces.items r.part.items r.tail.items r.whole r.refusal (vec_capacity r.part) (vec_capacity r.tail) (vec_capacity r.interfaces) };
+    ghost invariant = { λ r. IsReader r.cursor r.interfaces r.part.items r.tail.items r.whole r.refusal (vec_capacity r.part) (vec_capacity r.tail) };
 }
 
 impl Ng {
@@ -63,9 +63,7 @@ impl Ng {
         ensures empty { IfOk result (λ reader. reader ≡ nothing_read) }
         ensures read { IfOk result (λ reader. HasRead reader [] []) }
     {
-        let Ok(interfaces) = Vec::with_capacity(alloc, layout::INTERFACE_LIMIT) else {
-            return Err(NoMemory);
-        };
+        let interfaces = Interfaces::new(alloc)?;
         let Ok(part) = Vec::with_capacity(alloc, PART_ROOM) else {
             return Err(NoMemory);
         };
@@ -103,9 +101,7 @@ impl Ng {
     /// Takes bytes up to the end of one packet's block or of the piece.
     fn advance(&mut self, piece: &[u8]) -> Result<usize, Refusal>
         requires { Accepts (progress self.old) piece.now }
-        ensures nothing { IfOk result (λ n. (n ≡ 0) ↔ ((length piece.now ≡ 0) ⊎ IsSome (held self.old))) }
-        ensures end { IfOk result (λ n. n < length piece.now → IsSome (held self.new)) }
-        ensures steps { Steps (progress self.old) piece.now result (progress self.new) }
+        ensures advances { Advances (progress self.old) piece.now result (progress self.new) }
         ensures sure { IsSure meaning (progress self.new) }
     {
         let mut used = 0;
@@ -118,8 +114,7 @@ impl Ng {
     /// Skips bytes, or takes bytes until more is known of what follows next.
     fn feed_place(&mut self, piece: &[u8]) -> Result<usize, Refusal>
         requires { IsGoing self.old piece.now }
-        ensures some { IfOk result (λ n. 0 < n) }
-        ensures steps { Steps (progress self.old) piece.now result (progress self.new) }
+        ensures { TakesSome self.old piece.now result self.new }
     {
         if self.cursor.skip > 0 {
             let taken = self.skip(piece);
@@ -150,7 +145,7 @@ impl Ng {
         if !self.is_whole() {
             return false;
         }
-        steps::add_described(self.cursor.interface, &mut self.interfaces);
+        self.interfaces.add_described(self.cursor.interface);
         self.cursor = steps::after_trailer(self.cursor);
         self.part.clear();
         self.tail.clear();
@@ -175,7 +170,7 @@ impl Ng {
         match self.cursor.stage {
             Stage::Block => {
                 let order = self.cursor.order?;
-                steps::packet_size(order, self.interfaces.as_slice(), piece)
+                steps::packet_size(order, &self.interfaces, piece)
             }
             _ => None,
         }
@@ -189,7 +184,7 @@ impl Ng {
         ensures time { IsRecordTime result.arrival }
     {
         let order = layout::order_or_little(self.cursor.order);
-        layout::packet_view(order, self.interfaces.as_slice(), block)
+        layout::packet_view(order, &self.interfaces, block)
     }
 
     /// Skips the block of the next packet, as if its bytes had been fed and the packet released.
@@ -247,8 +242,7 @@ impl Ng {
     fn skip(&mut self, piece: &[u8]) -> usize
         requires going { IsGoing self.old piece.now }
         requires some { 0 < self.old.skip }
-        ensures some { 0 < result }
-        ensures steps { Steps (progress self.old) piece.now (Ok result) (progress self.new) }
+        ensures { TakesSome self.old piece.now (Ok result) self.new }
     {
         let taken = piece.len().min(self.cursor.skip as usize);
         self.cursor.skip -= taken as u32;
@@ -258,15 +252,13 @@ impl Ng {
     /// Takes bytes until more is known of a block.
     fn feed_block(&mut self, piece: &[u8]) -> Result<usize, Refusal>
         requires { IsAt stage.Block self.old piece.now }
-        ensures some { IfOk result (λ n. 0 < n) }
-        ensures steps { Steps (progress self.old) piece.now result (progress self.new) }
+        ensures { TakesSome self.old piece.now result self.new }
     {
         let need = steps::block_need(self.cursor.order, self.part.as_slice());
         let taken = gather(&mut self.part, need, piece);
         let part = self.part.as_slice();
-        let interfaces = self.interfaces.as_slice();
         let cursor = self.cursor;
-        let refusal = refusals::block_refusal(cursor.order, interfaces, cursor.start, part);
+        let refusal = refusals::block_refusal(cursor.order, &self.interfaces, cursor.start, part);
         match refusal {
             Some(refusal) => {
                 self.refusal = Some(refusal);
@@ -278,8 +270,8 @@ impl Ng {
             return Ok(taken);
         }
         let kind = layout::kind_at(cursor.order, part);
-        self.cursor = steps::after_block(cursor, interfaces, part);
-        steps::settle(kind, &mut self.interfaces);
+        self.cursor = steps::after_block(cursor, &self.interfaces, part);
+        self.interfaces.settle(kind);
         self.tail.clear();
         Ok(taken)
     }
@@ -287,8 +279,7 @@ impl Ng {
     /// Takes bytes until more is known of an option.
     fn feed_option(&mut self, piece: &[u8]) -> Result<usize, Refusal>
         requires { IsAt stage.Option self.old piece.now }
-        ensures some { IfOk result (λ n. 0 < n) }
-        ensures steps { Steps (progress self.old) piece.now result (progress self.new) }
+        ensures { TakesSome self.old piece.now result self.new }
     {
         let cursor = self.cursor;
         let order = layout::order_or_little(cursor.order);
@@ -307,7 +298,7 @@ impl Ng {
         if tail.len() < steps::option_need(order, tail) {
             return Ok(taken);
         }
-        self.cursor = steps::after_option(cursor, at, tail);
+        self.cursor = steps::after_option(cursor, tail);
         self.tail.clear();
         Ok(taken)
     }
@@ -315,8 +306,7 @@ impl Ng {
     /// Takes bytes up to the end of a trailer.
     fn feed_trailer(&mut self, piece: &[u8]) -> Result<usize, Refusal>
         requires { IsAt stage.Trailer self.old piece.now }
-        ensures some { IfOk result (λ n. 0 < n) }
-        ensures steps { Steps (progress self.old) piece.now result (progress self.new) }
+        ensures { TakesSome self.old piece.now result self.new }
     {
         let cursor = self.cursor;
         let order = layout::order_or_little(cursor.order);
@@ -338,7 +328,7 @@ impl Ng {
             self.whole = true;
             return Ok(taken);
         }
-        steps::add_described(cursor.interface, &mut self.interfaces);
+        self.interfaces.add_described(cursor.interface);
         self.cursor = steps::after_trailer(cursor);
         self.part.clear();
         self.tail.clear();

@@ -2,17 +2,17 @@
 
 ghost use Rattle.std.specs.Prelude.{false, [], ◌≡◌, ◌<◌, ◌^◌, length, Some};
 ghost use Rattle.pcapng_frames.specs.state.Reading.{lacks_by};
-ghost use Rattle.pcapng_frames.specs.Fields.{bad_length as is_bad_length, first_refused, interface_rows, other_rows, packet_rows, section_rows};
-ghost use Rattle.pcapng_frames.specs.state.Fields.{AllResolved};
+ghost use Rattle.pcapng_frames.specs.Fields.{bad_length as is_bad_length, first_refused, interface_rows, other_rows, packet_rows};
 ghost use Rattle.pcapng_frames.specs.Blocks.{Place, block_refused as refused_in_block, option_refused as refused_in_option, trailer_refused as refused_in_trailer, is_misplaced, kind_rows, order_at as order_in};
 ghost use Rattle.pcapng_frames.specs.declared.block.Kind.TheVariants as kind;
 ghost use Rattle.pcapng_frames.specs.declared.block.Stage.TheVariants as stage;
 
 use crate::block::Kind;
-use crate::interface::{self, Interface};
+use crate::interface;
+use crate::interfaces::{INTERFACE_LIMIT, Interfaces};
 use crate::layout::{
-    END_OF_OPTIONS, IF_TSOFFSET, IF_TSRESOL, INTERFACE_LIMIT, PACKET_LIMIT, kind_at,
-    order_of_magic, order_or_little, packet_arrival, padded,
+    END_OF_OPTIONS, IF_TSOFFSET, IF_TSRESOL, PACKET_LIMIT, kind_at, order_of_magic,
+    order_or_little, packet_arrival, padded,
 };
 use avtp_base::rows::{cut_off, refused};
 use avtp_base::{Field, Refusal};
@@ -20,7 +20,7 @@ use pcap_frames::Order;
 use pcap_frames::numbers::{u16_at, u32_at};
 
 /// Whether a total length is too small for this kind of block, or is not a multiple of 4.
-pub fn bad_length(kind: Kind, total: u32) -> bool
+fn bad_length(kind: Kind, total: u32) -> bool
     ensures { result ≡ is_bad_length kind total }
 {
     let least = match kind {
@@ -32,14 +32,17 @@ pub fn bad_length(kind: Kind, total: u32) -> bool
     total < least || total % 4 != 0
 }
 
-/// The first refused field of a section header after its magic number, among the fields that these bytes contain.
-pub fn section_refusal(order: Order, start: u64, bytes: &[u8]) -> Option<Refusal>
+/// The first refused field of a section header, among the fields that these bytes contain.
+fn section_refusal(start: u64, bytes: &[u8]) -> Option<Refusal>
     requires { start < 2 ^ 63 }
-    ensures { result ≡ first_refused start (length bytes.now) (section_rows order bytes.now) }
+    ensures { result ≡ first_refused start (length bytes.now) (kind_rows kind.Section (order_in kind.Section None bytes.now) [] bytes.now) }
 {
     if bytes.len() < 12 {
         return None;
     }
+    let Some(order) = order_of_magic(u32_at(Order::Little, bytes, 8)) else {
+        return Some(refused(Field::ByteOrderMagic, start + 8));
+    };
     if bad_length(Kind::Section, u32_at(order, bytes, 4)) {
         return Some(refused(Field::BlockLength, start + 4));
     }
@@ -51,7 +54,7 @@ pub fn section_refusal(order: Order, start: u64, bytes: &[u8]) -> Option<Refusal
 
 /// The first refused field of an interface description, among the fields that these bytes contain. `count` other
 /// interface descriptions precede this one in its section.
-pub fn interface_refusal(order: Order, count: usize, start: u64, bytes: &[u8]) -> Option<Refusal>
+fn interface_refusal(order: Order, count: usize, start: u64, bytes: &[u8]) -> Option<Refusal>
     requires { start < 2 ^ 63 }
     ensures { result ≡ first_refused start (length bytes.now) (interface_rows order count bytes.now) }
 {
@@ -72,14 +75,13 @@ pub fn interface_refusal(order: Order, count: usize, start: u64, bytes: &[u8]) -
 
 /// The first refused field of an enhanced packet block in a section with these interfaces, among the fields that these
 /// bytes contain.
-pub fn packet_refusal(
+fn packet_refusal(
     order: Order,
-    interfaces: &[Interface],
+    interfaces: &Interfaces,
     start: u64,
     bytes: &[u8],
 ) -> Option<Refusal>
-    requires begins { start < 2 ^ 63 }
-    requires resolved { AllResolved interfaces.now }
+    requires { start < 2 ^ 63 }
     ensures { result ≡ first_refused start (length bytes.now) (packet_rows order interfaces.now bytes.now) }
 {
     let len = bytes.len();
@@ -108,17 +110,6 @@ pub fn packet_refusal(
     let captured = u32_at(order, bytes, 20);
     if captured > PACKET_LIMIT || u64::from(total) < 32 + padded(captured) {
         return Some(refused(Field::CapturedLength, start + 20));
-    }
-    None
-}
-
-/// The refusal of a skipped block's total length, if these bytes contain the total length and its value is refused.
-pub fn other_refusal(order: Order, start: u64, bytes: &[u8]) -> Option<Refusal>
-    requires { start < 2 ^ 63 }
-    ensures { result ≡ first_refused start (length bytes.now) (other_rows order bytes.now) }
-{
-    if bytes.len() >= 8 && bad_length(Kind::Other, u32_at(order, bytes, 4)) {
-        return Some(refused(Field::BlockLength, start + 4));
     }
     None
 }
@@ -154,35 +145,28 @@ pub fn option_refusal(order: Order, at: u64, left: u32, bytes: &[u8]) -> Option<
 fn kind_refusal(
     kind: Kind,
     order: Option<Order>,
-    interfaces: &[Interface],
+    interfaces: &Interfaces,
     start: u64,
     bytes: &[u8],
 ) -> Option<Refusal>
-    requires begins { start < 2 ^ 63 }
-    requires resolved { AllResolved interfaces.now }
+    requires { start < 2 ^ 63 }
     ensures { result ≡ first_refused start (length bytes.now) (kind_rows kind (order_in kind order bytes.now) interfaces.now bytes.now) }
 {
     match kind {
-        Kind::Section => whole_section_refusal(start, bytes),
+        Kind::Section => section_refusal(start, bytes),
         Kind::Interface => {
             interface_refusal(order_or_little(order), interfaces.len(), start, bytes)
         }
         Kind::Packet => packet_refusal(order_or_little(order), interfaces, start, bytes),
-        Kind::Other => other_refusal(order_or_little(order), start, bytes),
-    }
-}
-
-/// The first refused field of a section header, among the fields that these bytes contain.
-fn whole_section_refusal(start: u64, bytes: &[u8]) -> Option<Refusal>
-    requires { start < 2 ^ 63 }
-    ensures { result ≡ first_refused start (length bytes.now) (kind_rows kind.Section (order_in kind.Section None bytes.now) [] bytes.now) }
-{
-    if bytes.len() < 12 {
-        return None;
-    }
-    match order_of_magic(u32_at(Order::Little, bytes, 8)) {
-        None => Some(refused(Field::ByteOrderMagic, start + 8)),
-        Some(order) => section_refusal(order, start, bytes),
+        Kind::Other => {
+            if bytes.len() >= 8
+                && bad_length(Kind::Other, u32_at(order_or_little(order), bytes, 4))
+            {
+                Some(refused(Field::BlockLength, start + 4))
+            } else {
+                None
+            }
+        }
     }
 }
 
@@ -200,12 +184,11 @@ fn misplaced(kind: Kind, order: Option<Order>) -> bool
 #[tactic(auto, unfolding(crate::specs::Blocks::block_refused))]
 pub fn block_refusal(
     order: Option<Order>,
-    interfaces: &[Interface],
+    interfaces: &Interfaces,
     start: u64,
     bytes: &[u8],
 ) -> Option<Refusal>
-    requires begins { start < 2 ^ 63 }
-    requires resolved { AllResolved interfaces.now }
+    requires { start < 2 ^ 63 }
     ensures { result ≡ refused_in_block order interfaces.now start bytes.now }
 {
     if bytes.len() < 4 {

@@ -7,7 +7,6 @@ use Rattle.avtp_base.specs.States.{ShelfState}
 use Rattle.pcap_frames.specs.Capture.{Record}
 use Rattle.capture_io.specs.declared.end.End.{End}
 use Rattle.capture_io.specs.Ends.{CountsFault}
-use Rattle.capture_io.specs.Reader.{held}
 use Rattle.capture_io.specs.state.Reader.{IsNext, Releases, with_record}
 use Rattle.capture_io.specs.Reads.{ReadsSlot}
 use Rattle.capture_io.specs.Source.{Sourcing, slot_of, remains_of, held_in, HasFed, EndsAfter, to_do}

@@ -1,6 +1,6 @@
 -- Only private functions and proofs use these definitions. The fields of a pcapng capture's blocks,
 -- their offsets, and which values are refused (draft-ietf-opsawg-pcapng, sections 3 and 4).
-use Rattle.std.specs.Prelude.{◌≡◌, ℕ, true, List}
+use Rattle.std.specs.Prelude.{◌≡◌, ◌≤◌, ℕ, ⊤, true, List, Option, Some, None}
 use Rattle.std.specs.List.{All}
 use Rattle.pcapng_frames.specs.declared.block.Kind.{Kind}
 use Rattle.pcapng_frames.specs.declared.block.Kind.TheVariants as kind
@@ -18,12 +18,12 @@ head_size kind.Other = 8
 abbrev pub AllResolved : List Interface → Type 0
 AllResolved interfaces = All (λ (i : Interface). is_resolution i.resolution ≡ true) interfaces
 
--- the codes of the options that are read, and the code that ends the options
-abbrev pub end_of_options : ℕ
-end_of_options = 0
+-- the resolution of the interface, if there is one, is accepted
+abbrev pub IsResolved : Option Interface → Type 0
+IsResolved None = ⊤
+IsResolved (Some interface) = is_resolution interface.resolution ≡ true
 
-abbrev pub if_tsresol : ℕ
-if_tsresol = 9
-
-abbrev pub if_tsoffset : ℕ
-if_tsoffset = 14
+-- These interfaces are those of a section: each resolution is accepted, and the memory has room for 256 interfaces.
+pub record AreInterfaces (interfaces : List Interface) (capacity : ℕ) : Type 0 where
+  pub resolved : AllResolved interfaces
+  pub room : 256 ≤ capacity

@@ -1,9 +1,10 @@
 -- Only private functions and proofs use these definitions. The state of a reader.
-use Rattle.std.specs.Prelude.{◌≡◌, ℕ, ◌+◌, ◌-◌, ◌<◌, ◌≤◌, ◌^◌, ◌%◌, pos, ⊤, Bool, true, false, is_some, IfSome, nat_lt, nat_eq, if◌then◌else◌, List, ◌++◌, length, drop, Option, Some, None}
+use Rattle.std.specs.Prelude.{◌≡◌, ℕ, ◌+◌, ◌-◌, ◌<◌, ◌≤◌, ◌^◌, ◌%◌, ⊤, Bool, true, false, is_some, IfSome, nat_lt, nat_eq, if◌then◌else◌, List, ◌++◌, length, drop, take, Option, Some, None, Result, IfOk}
 use Rattle.avtp_base.specs.declared.refusal.Refusal.{Refusal}
 use Rattle.pcap_frames.specs.Capture.{Record}
+use Rattle.pcap_frames.specs.state.Readers.{Steps}
 use Rattle.pcap_frames.specs.declared.style.Order.{Order}
-use Rattle.pcap_frames.specs.Layout.{number_at}
+use Rattle.pcap_frames.specs.Layout.{IsRecordTime, number_at}
 use Rattle.pcapng_frames.specs.declared.interface.Interface.{Interface}
 use Rattle.pcapng_frames.specs.declared.block.Kind.{Kind}
 use Rattle.pcapng_frames.specs.declared.block.Kind.TheVariants as kind
@@ -11,11 +12,12 @@ use Rattle.pcapng_frames.specs.declared.block.Stage.{Stage}
 use Rattle.pcapng_frames.specs.declared.block.Stage.TheVariants as stage
 use Rattle.pcapng_frames.specs.declared.block.Cursor.{Cursor}
 use Rattle.pcapng_frames.specs.declared.block.PacketHead.{PacketHead}
-use Rattle.pcapng_frames.specs.Interface.{is_resolution}
 use Rattle.pcapng_frames.specs.Fields.{first_refused, kind_of, option_code, packet_rows}
-use Rattle.pcapng_frames.specs.Blocks.{kind_at, order_or_little, refusal_here, ends_at, cut_by, Place}
-use Rattle.pcapng_frames.specs.Reading.{Reading, rest_of, passed_by, taken, taken_by}
-use Rattle.pcapng_frames.specs.state.Fields.{AllResolved}
+use Rattle.pcapng_frames.specs.Blocks.{after_block, after_trailer, block_size, cut_by, ends_at, kind_at, kind_rows, next_by, option_refused, order_at, order_or_little, refusal_here, size_by, Place}
+use Rattle.pcapng_frames.specs.Reading.{IsPacketBlock, Reading, progress, rest_of, passed_by, taken, taken_by}
+use Rattle.std.specs.Option.{option_to_list}
+use Rattle.pcapng_frames.specs.state.Blocks.{interfaces_after}
+use Rattle.pcapng_frames.specs.state.Fields.{IsResolved}
 
 -- The reader took `bytes`: reading on from `old` with `bytes ++ more` gives the same contents as reading on from `new`
 -- with `more`.
@@ -89,7 +91,7 @@ part_at stage.Trailer part tail = tail
 
 -- the packet with these fixed fields, whose captured bytes follow the first 28 bytes of `part`
 abbrev pub packet_with : PacketHead → List ℕ → Record
-packet_with head part = record { arrival = pos head.arrival; orig_len = head.orig_len; bytes = drop 28 part }
+packet_with head part = record { arrival = head.arrival; orig_len = head.orig_len; bytes = drop 28 part }
 
 abbrev pub packet_of : Option PacketHead → List ℕ → Option Record
 packet_of None part = None
@@ -111,12 +113,7 @@ place_of c interfaces part = record {
 -- if there is a packet, its fixed fields are held, and the packet is in a section
 abbrev pub HasHead : Option Order → Option PacketHead → List ℕ → Type 0
 HasHead order None part = ⊤
-HasHead order (Some head) part = (28 ≤ length part) × (head.arrival ≤ 2 ^ 62) × (is_some order ≡ true)
-
--- the resolution of the interface, if there is one, is accepted
-abbrev pub IsResolved : Option Interface → Type 0
-IsResolved None = ⊤
-IsResolved (Some interface) = is_resolution interface.resolution ≡ true
+HasHead order (Some head) part = (28 ≤ length part) × IsRecordTime head.arrival × (is_some order ≡ true)
 
 -- an option or a trailer follows, not a block
 abbrev pub is_inside : Stage → Bool
@@ -130,15 +127,70 @@ IsUnpacked stage.Block packet = ⊤
 IsUnpacked stage.Option packet = packet ≡ None
 IsUnpacked stage.Trailer packet = ⊤
 
--- A cursor has entered a block, or moved on in a block: the cursor is before an option or the trailer. `front` are the
--- bytes held of the block, and `count` bytes of the block were taken.
-pub record HasEntered (c : Cursor) (front : List ℕ) (count : ℕ) : Type 0 where
+-- A cursor has moved on within a block, in a section with these interfaces. It is before an option or the trailer, at
+-- the place `q`. The place `q` is `span` bytes after the place at which `bytes` were taken. `before` bytes of the
+-- capture were taken before them. `front` are the bytes held of the block.
+pub record HasMoved (before : ℕ) (q : Place) (span : ℕ) (bytes : List ℕ) (c : Cursor) (interfaces : List Interface) (front : List ℕ) : Type 0 where
+  pub place : place_of c interfaces front ≡ q
+  pub size : span ≡ length bytes + c.skip
+  pub room : IfSome c.interface (λ i. length interfaces < 256)
   pub head : HasHead c.order c.packet front
   pub resolved : IsResolved c.interface
   pub ahead : IsAhead c.stage c.skip c.left c.total
   pub inside : is_inside c.stage ≡ true
   pub unpacked : IsUnpacked c.stage c.packet
-  pub passed : passed_by c.stage c.skip c.left c.total ≡ count
+  pub passed : c.start + passed_by c.stage c.skip c.left c.total ≡ before + length bytes
+
+-- the number of bytes that are read at the start of a block of this kind: its fixed fields, and the captured bytes of a
+-- packet
+abbrev pub head_length : Kind → Order → List ℕ → ℕ
+head_length kind.Section order part = 16
+head_length kind.Interface order part = 16
+head_length kind.Packet order part = 28 + number_at order 20 4 part
+head_length kind.Other order part = 8
+
+-- a packet's block is in a section
+abbrev pub IsOpened : Kind → Option Order → Type 0
+IsOpened kind.Section order = ⊤
+IsOpened kind.Interface order = ⊤
+IsOpened kind.Packet order = is_some order ≡ true
+IsOpened kind.Other order = ⊤
+
+-- All bytes that are read at the start of a block of this kind were taken, and nothing in them is refused.
+pub record IsHead (k : Kind) (order : Option Order) (interfaces : List Interface) (start : ℕ) (part : List ℕ) : Type 0 where
+  pub long : 8 ≤ length part
+  pub whole : length part ≡ head_length k (order_or_little order) part
+  pub accepted : first_refused start (length part) (kind_rows k (order_at k order part) interfaces part) ≡ None
+  pub opened : IsOpened k order
+
+-- the cursor after `part` was taken at the start of a block of this kind, which begins at the place `p`
+abbrev pub IsAfterHead : Kind → Place → List ℕ → Cursor → Type 0
+IsAfterHead k p part c =
+    let total = number_at (order_at k p.order part) 4 4 part in
+    HasMoved p.start (after_block k p total part) (block_size k total) part c (interfaces_after k p.interfaces) part
+
+-- All bytes that are read of the option at the cursor were taken, and nothing in them is refused.
+pub record IsOption (c : Cursor) (tail : List ℕ) : Type 0 where
+  pub long : 4 ≤ length tail
+  pub whole : length tail ≡ option_need (order_or_little c.order) tail
+  pub accepted : option_refused (order_or_little c.order) (c.start + (c.total - 4 - c.left)) c.left tail ≡ None
+  pub resolved : IsResolved c.interface
+  pub ahead : IsAhead stage.Option 0 c.left c.total
+  pub packet : c.packet ≡ None
+
+-- the cursor after `tail` was taken of the option at the place `p`
+abbrev pub IsAfterOption : Place → List ℕ → Cursor → List ℕ → Type 0
+IsAfterOption p tail c front =
+    HasMoved (p.start + passed_by stage.Option 0 p.left p.total) (next_by stage.Option p tail) (size_by stage.Option p tail) tail c p.interfaces front
+
+-- The cursor `next` is before the block that follows the block of the cursor `c`.
+pub record IsPast (c next : Cursor) : Type 0 where
+  pub place : (front part : List ℕ) (interfaces : List Interface) → place_of next (interfaces ++ option_to_list c.interface) front ≡ after_trailer (place_of c interfaces part)
+  pub stage : next.stage ≡ stage.Block
+  pub skip : next.skip ≡ 0
+  pub interface : next.interface ≡ None
+  pub packet : next.packet ≡ None
+  pub start : next.start ≡ c.start + c.total
 
 -- A reader can take bytes of a piece: the piece is not empty, and the reader has no refusal and holds no packet.
 pub record IsGoing (r : Reading) (piece : List ℕ) : Type 0 where
@@ -153,6 +205,11 @@ pub record IsAt (next : Stage) (r : Reading) (piece : List ℕ) : Type 0 where
   pub going : IsGoing r piece
   pub stage : r.place.stage ≡ next
   pub ready : r.skip ≡ 0
+
+-- A reader took at least one byte of a piece, or refused a field in the piece.
+pub record TakesSome (old : Reading) (piece : List ℕ) (result : Result ℕ Refusal) (new : Reading) : Type 0 where
+  pub some : IfOk result (λ n. 0 < n)
+  pub steps : Steps (progress old) piece result (progress new)
 
 -- what is missing if the capture ends after the bytes taken by a reader in this state
 abbrev pub lacks_by : Bool → Place → List ℕ → Option Refusal
@@ -170,12 +227,17 @@ pub record BeginsPacket (order : Order) (interfaces : List Interface) (bytes : L
   pub within : number_at order 4 4 bytes ≤ length bytes
   pub trailer : number_at order 0 4 (drop (number_at order 4 4 bytes - 4) bytes) ≡ number_at order 4 4 bytes
 
+-- The size of a packet's block that the bytes begin with, or `None` if they begin with no whole block of a packet, or if
+-- something in the block is refused.
+pub record IsPacketSize (order : Order) (interfaces : List Interface) (bytes : List ℕ) (size : Option ℕ) : Type 0 where
+  pub within : IfSome size (λ n. n ≤ length bytes)
+  pub packet : IfSome size (λ n. IsPacketBlock order interfaces (take n bytes))
+  pub none : size ≡ None → (n : ℕ) → IsPacketBlock order interfaces (take n bytes) → ⊥
+
 -- The invariant of a reader with these fields, whose buffers have these capacities.
-pub record IsReader (cursor : Cursor) (interfaces : List Interface) (front tail : List ℕ) (whole : Bool) (refusal : Option Refusal) (front_capacity tail_capacity interface_capacity : ℕ) : Type 0 where
+pub record IsReader (cursor : Cursor) (interfaces : List Interface) (front tail : List ℕ) (whole : Bool) (refusal : Option Refusal) (front_capacity tail_capacity : ℕ) : Type 0 where
   pub front_room : 262172 ≤ front_capacity
   pub tail_room : 12 ≤ tail_capacity
-  pub interface_room : 256 ≤ interface_capacity
-  pub resolved : AllResolved interfaces
   pub described : IsResolved cursor.interface
   pub head : HasHead cursor.order cursor.packet front
   pub bounded : taken_by cursor.stage (place_of cursor interfaces front) cursor.skip (part_at cursor.stage front tail) ≤ 2 ^ 62

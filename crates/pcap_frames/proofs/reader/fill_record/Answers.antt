@@ -6,12 +6,13 @@ use Rattle.pcap_frames.proofs.Held.{filled}
 use Rattle.pcap_frames.proofs.Steps.{rest_long, two_steps}
 use Rattle.pcap_frames.proofs.reader.fill_record.Goals as goal
 
-pub returns-in-Some-clause-fills : goal.returns-in-Some-clause-fills
-returns-in-Some-clause-fills c =
+pub returns-in-Some : goal.returns-in-Some
+returns-in-Some c =
     let some = sym c.certain.ensures ∙ c.in-Some.is in
     let why = rw (c.record_refusal-refusal.ensures, c.as_slice.ensures.value, c.gather-header.ensures.moved) at some in
     let first = certain_is _ _ why in
     record {
+      room = omega (arith, c.requires.room, c.gather-header.ensures.capacity);
       within = tt;
       moved = tt;
       part = tt;
@@ -29,8 +30,8 @@ gather-bytes-requires c =
     let limit = record_limit _ _ _ (omega (arith, long)) accepted in
     omega arith
 
-pub returns-clause-fills : goal.returns-clause-fills
-returns-clause-fills c =
+pub returns : goal.returns
+returns c =
     let first = c.gather-header.ensures in
     let then = c.gather-bytes.ensures in
     let certain = sym c.certain.ensures ∙ c.in-None.is in
@@ -43,6 +44,7 @@ returns-clause-fills c =
     let more = length-take-le _ _ then.within in
     let grown = rw then.moved at then.grown in
     record {
+      room = omega (arith, c.requires.room, first.capacity, then.capacity);
       within = omega (arith, first.within, then.within, rest);
       moved = then.moved ∙ (ap (λ (p : List ℕ). p ++ take c.gather-bytes.result (take (length c.args.piece.now - c.gather-header.result) (drop c.gather-header.result c.args.piece.now))) first.moved ∙ two_steps c.args.part.now.items c.gather-header.result c.gather-bytes.result c.args.piece.now);
       part = rw then.moved (part_filled _ _ _ _ mid long (omega arith));

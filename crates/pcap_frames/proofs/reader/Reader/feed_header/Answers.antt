@@ -35,8 +35,8 @@ invariant_of-self-then-refusal c =
       }));
     }
 
-pub returns-in-None-clause-steps : goal.returns-in-None-clause-steps
-returns-in-None-clause-steps c =
+pub returns-in-None : goal.returns-in-None
+returns-in-None c =
     let this = rw (← c.self.view_is) at c.requires in
     let old = in_header _ _ _ _ this.accepted this.styled c.self.invariant.reading in
     let all = sym c.file_refusal.ensures ∙ c.in-None.is in
@@ -45,64 +45,70 @@ returns-in-None-clause-steps c =
     let is = rw (c.as_slice-header.ensures.value, c.gather-taken.ensures.moved) at c.style_at-self-inside.ensures in
     let grown = rw c.gather-taken.ensures.moved at c.gather-taken.ensures.grown in
     record {
-      within = omega arith;
-      counted = rw (c.clear.ensures.items, ← c.self.view_is) (omega arith);
-      bounded = rw (c.clear.ensures.items, ← c.self.view_is) (omega arith);
-      read = λ bytes records h.
-          let before = rw (← c.self.view_is) at h in
-          header_ends _ _ _ _ _ _ _ _ _ this.accepted this.styled whole (omega arith) is c.clear.ensures.items before;
-      accepted = this.accepted;
-      refused = tt;
-      stopped = tt;
+      some = λ more. omega (arith, more, old.partial, c.gather-taken.ensures.taken);
+      end = λ less. ap is_some c.style_at-self-inside.ensures ∙ file_style _ (sym c.file_refusal.ensures ∙ c.in-None.is);
+      steps = record {
+        within = omega arith;
+        counted = rw (c.clear.ensures.items, ← c.self.view_is) (omega arith);
+        bounded = rw (c.clear.ensures.items, ← c.self.view_is) (omega arith);
+        read = λ bytes records h.
+            let before = rw (← c.self.view_is) at h in
+            header_ends _ _ _ _ _ _ _ _ _ this.accepted this.styled whole (omega arith) is c.clear.ensures.items before;
+        accepted = this.accepted;
+        refused = tt;
+        stopped = tt;
+      };
     }
 
-pub returns-in-Some-clause-steps : goal.returns-in-Some-clause-steps
-returns-in-Some-clause-steps c =
+pub returns-in-Some : goal.returns-in-Some
+returns-in-Some c =
     let this = rw (← c.self.view_is) at c.requires in
     let old = in_header _ _ _ _ this.accepted this.styled c.self.invariant.reading in
     let some = sym c.file_refusal.ensures ∙ c.in-Some.is in
     let why = rw (c.as_slice-header.ensures.value, c.gather-taken.ensures.moved) at some in
     record {
-      within = omega arith;
-      counted = rw (← c.self.view_is) (omega arith);
-      bounded = rw (← c.self.view_is) (omega arith);
-      read = λ bytes records h.
-          let before = rw (← c.self.view_is) at h in
-          rw c.gather-taken.ensures.moved (header_goes_on _ _ _ _ _ _ _ _ this.accepted this.styled why (still_in_header _ _ _ _ this.accepted this.styled (record {
-            begins = old.begins;
-            accepted = short_only _ _ why c.if-refusal.true;
-            partial = file_short _ _ why c.if-refusal.true;
-          })) before);
-      accepted = this.accepted;
-      refused = tt;
-      stopped = tt;
+      some = λ more. omega (arith, more, old.partial, c.gather-taken.ensures.taken);
+      end = λ less.
+          let some = sym c.file_refusal.ensures ∙ c.in-Some.is in
+          let why = rw c.as_slice-header.ensures.value at some in
+          let short = file_short _ _ why c.if-refusal.true in
+          absurd (omega arith);
+      steps = record {
+        within = omega arith;
+        counted = rw (← c.self.view_is) (omega arith);
+        bounded = rw (← c.self.view_is) (omega arith);
+        read = λ bytes records h.
+            let before = rw (← c.self.view_is) at h in
+            rw c.gather-taken.ensures.moved (header_goes_on _ _ _ _ _ _ _ _ this.accepted this.styled why (still_in_header _ _ _ _ this.accepted this.styled (record {
+              begins = old.begins;
+              accepted = short_only _ _ why c.if-refusal.true;
+              partial = file_short _ _ why c.if-refusal.true;
+            })) before);
+        accepted = this.accepted;
+        refused = tt;
+        stopped = tt;
+      };
     }
 
-pub returns-in-Some-2-clause-steps : goal.returns-in-Some-2-clause-steps
-returns-in-Some-2-clause-steps c =
+pub returns-in-Some-2 : goal.returns-in-Some-2
+returns-in-Some-2 c =
     let this = rw (← c.self.view_is) at c.requires in
     let some = sym c.file_refusal.ensures ∙ c.in-Some.is in
     let why = rw (c.as_slice-header.ensures.value, c.gather-taken.ensures.moved) at some in
     record {
-      within = tt;
-      counted = tt;
-      bounded = rw (← c.self.view_is) (omega arith);
-      read = tt;
-      accepted = tt;
-      refused = refl;
-      stopped = λ bytes records h.
-          let before = rw (← c.self.view_is) at h in
-          subst (λ (p : List ℕ). HasRead (reading (Some c.in-Some.refusal) c.self.inside.style c.self.inside.start c.gather-taken.new.part.items) (bytes ++ p) records)
-          (take-append-drop c.gather-taken.result c.args.piece.now)
-          (header_refuses _ _ _ _ _ _ _ _ _ _ this.accepted this.styled why c.if-refusal.false before);
+      some = tt;
+      end = tt;
+      steps = record {
+        within = tt;
+        counted = tt;
+        bounded = rw (← c.self.view_is) (omega arith);
+        read = tt;
+        accepted = tt;
+        refused = refl;
+        stopped = λ bytes records h.
+            let before = rw (← c.self.view_is) at h in
+            subst (λ (p : List ℕ). HasRead (reading (Some c.in-Some.refusal) c.self.inside.style c.self.inside.start c.gather-taken.new.part.items) (bytes ++ p) records)
+            (take-append-drop c.gather-taken.result c.args.piece.now)
+            (header_refuses _ _ _ _ _ _ _ _ _ _ this.accepted this.styled why c.if-refusal.false before);
+      };
     }
-
-pub returns-in-None-clause-end : goal.returns-in-None-clause-end
-returns-in-None-clause-end c = λ less. ap is_some c.style_at-self-inside.ensures ∙ file_style _ (sym c.file_refusal.ensures ∙ c.in-None.is)
-
-pub returns-in-Some-clause-end : goal.returns-in-Some-clause-end
-returns-in-Some-clause-end c = λ less.
-    let some = sym c.file_refusal.ensures ∙ c.in-Some.is in
-    let why = rw c.as_slice-header.ensures.value at some in
-    let short = file_short _ _ why c.if-refusal.true in
-    absurd (omega arith)

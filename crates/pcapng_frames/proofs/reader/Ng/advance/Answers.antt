@@ -22,10 +22,14 @@ returns-else-not-self-clause-sure c = sure _ c.loop-used.invariant.steps.accepte
 pub returns-after-loop-used-clause-sure : goal.returns-after-loop-used-clause-sure
 returns-after-loop-used-clause-sure c = sure _ c.loop-used.invariant.steps.accepted (rw (← c.self.view_is) c.self.invariant.reading)
 
-pub returns-in_err-used-clause-steps : goal.returns-in_err-used-clause-steps
-returns-in_err-used-clause-steps c =
+pub returns-in_err-used-clause-advances : goal.returns-in_err-used-clause-advances
+returns-in_err-used-clause-advances c =
     let p = err_from_is_err_and c.from_residual.result c.from_residual.ensures.1 in
-    rw (p.1, p.2) (steps_refused _ _ _ _ _ _ c.loop-used.invariant.steps c.in_err-used.ensures.steps)
+    rw (p.1, p.2) (record {
+      steps = steps_refused _ _ _ _ _ _ c.loop-used.invariant.steps c.in_err-used.ensures.steps;
+      nothing = tt;
+      end = tt;
+    })
 
 pub returns-in_err-used-clause-sure : goal.returns-in_err-used-clause-sure
 returns-in_err-used-clause-sure c = sure_refused _ _ c.in_err-used.ensures.steps.refused

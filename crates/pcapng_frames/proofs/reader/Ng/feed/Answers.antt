@@ -8,4 +8,4 @@ returns-in-Some c = rw (← c.self.view_is) (feeds_again _ _ _ _ c.in-Some.is (r
 pub returns-in-None : goal.returns-in-None
 returns-in-None c =
     let fed = c.advance.ensures in
-    feeds _ _ _ _ _ (rw (← c.self.view_is) c.in-None.is) (record { steps = fed.steps; nothing = fed.nothing; end = fed.end }) fed.sure
+    feeds _ _ _ _ _ (rw (← c.self.view_is) c.in-None.is) fed.advances fed.sure

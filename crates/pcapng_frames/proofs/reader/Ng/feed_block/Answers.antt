@@ -2,8 +2,9 @@ use Rattle.std.proofs.Common.{arith, take, ◌∙◌, length, refl, ap}
 use Rattle.pcapng_frames.specs.state.Blocks.{interfaces_after}
 use Rattle.pcapng_frames.specs.state.Reading.{place_of}
 use Rattle.pcapng_frames.proofs.Needs.{block_bound, block_came}
+use Rattle.pcapng_frames.proofs.Heads.{head_taken}
 use Rattle.pcapng_frames.proofs.Moves.{goes_on}
-use Rattle.pcapng_frames.proofs.Feeding.{is_reading, block_begun, part_block, head_none, block_takes, block_refuses, block_ends, inside_part, inside_size, room_less}
+use Rattle.pcapng_frames.proofs.Feeding.{is_reading, block_begun, part_block, head_none, block_takes, block_refuses, block_ends, inside_part, inside_size}
 use Rattle.pcapng_frames.proofs.reader.Ng.feed_block.Goals as goal
 
 pub gather-taken-requires : goal.gather-taken-requires
@@ -12,53 +13,58 @@ gather-taken-requires c =
     let b = block_begun c.self.invariant this in
     rw (c.block_need-need.ensures, c.as_slice.ensures.value) (omega (arith, block_bound _ _ _ _ b.accepted, c.self.invariant.front_room))
 
-pub returns-in-Some-clause-steps : goal.returns-in-Some-clause-steps
-returns-in-Some-clause-steps c =
+pub returns-in-Some : goal.returns-in-Some
+returns-in-Some c =
     let this = rw (← c.self.view_is) at c.requires in
     let b = block_begun c.self.invariant this in
-    let here = rw (c.block_refusal-refusal.ensures, c.as_slice-part.ensures.value, c.as_slice-interfaces.ensures.value) at c.in-Some.is in
+    let here = rw (c.block_refusal-refusal.ensures, c.as_slice-part.ensures.value) at c.in-Some.is in
     record {
-      within = tt;
-      counted = tt;
-      bounded = rw (← c.self.view_is, this.stage) (omega (arith, c.gather-taken.ensures.grown, c.gather-taken.ensures.within));
-      read = tt;
-      accepted = tt;
-      refused = refl;
-      stopped = rw (← c.self.view_is) (goes_on _ _ _ (block_refuses c.self.inside.cursor c.self.inside.interfaces.items c.self.inside.part.items c.self.inside.tail.items c.args.piece.now c.gather-taken.new.part.items c.gather-taken.result _ _ _ _ this.going.accepted this.going.partial this.stage b.none b.packet c.gather-taken.ensures.moved here refl));
+      some = tt;
+      steps = record {
+        within = tt;
+        counted = tt;
+        bounded = rw (← c.self.view_is, this.stage) (omega (arith, c.gather-taken.ensures.grown, c.gather-taken.ensures.within));
+        read = tt;
+        accepted = tt;
+        refused = refl;
+        stopped = rw (← c.self.view_is) (goes_on _ _ _ (block_refuses c.self.inside.cursor c.self.inside.interfaces c.self.inside.part.items c.self.inside.tail.items c.args.piece.now c.gather-taken.new.part.items c.gather-taken.result _ _ _ _ this.going.accepted this.going.partial this.stage b.none b.packet c.gather-taken.ensures.moved here refl));
+      };
     }
 
 pub invariant_of-self-then-part-block_need : goal.invariant_of-self-then-part-block_need
 invariant_of-self-then-part-block_need c =
     let this = rw (← c.self.view_is) at c.requires in
     let b = block_begun c.self.invariant this in
-    let accepted = rw (c.block_refusal-refusal.ensures, c.as_slice-part.ensures.value, c.as_slice-interfaces.ensures.value) at c.in-None.is in
+    let accepted = rw (c.block_refusal-refusal.ensures, c.as_slice-part.ensures.value) at c.in-None.is in
     let need = rw c.as_slice-part.ensures.value at c.block_need.ensures in
     let slice = ap length c.as_slice-part.ensures.value in
     let bounded = rw this.stage at this.going.bounded in
     record {
       front_room = omega (arith, c.self.invariant.front_room, c.gather-taken.ensures.capacity);
       tail_room = c.self.invariant.tail_room;
-      interface_room = c.self.invariant.interface_room;
-      resolved = c.self.invariant.resolved;
       described = c.self.invariant.described;
       head = head_none _ _ _ b.packet;
       bounded = rw this.stage (omega (arith, c.gather-taken.ensures.grown, c.gather-taken.ensures.within));
-      reading = is_reading _ _ _ _ _ this.going.accepted this.going.partial (part_block c.self.inside.cursor c.self.inside.interfaces.items c.gather-taken.new.part.items c.self.inside.tail.items this.stage
+      reading = is_reading _ _ _ _ _ this.going.accepted this.going.partial (part_block c.self.inside.cursor c.self.inside.interfaces c.gather-taken.new.part.items c.self.inside.tail.items this.stage
           (record { accepted = accepted; partial = omega (arith, need, slice, c.if-part-block_need.true); none = b.none; packet = b.packet; interface = b.interface }));
     }
 
-pub returns-then-part-block_need-clause-steps : goal.returns-then-part-block_need-clause-steps
-returns-then-part-block_need-clause-steps c =
+pub returns-then-part-block_need : goal.returns-then-part-block_need
+returns-then-part-block_need c =
     let this = rw (← c.self.view_is) at c.requires in
     let b = block_begun c.self.invariant this in
+    let first = rw c.as_slice.ensures.value at c.block_need-need.ensures in
     record {
-      within = c.gather-taken.ensures.within;
-      counted = rw (← c.self.view_is, this.stage) (omega (arith, c.gather-taken.ensures.grown));
-      bounded = rw (← c.self.view_is, this.stage) (omega (arith, c.gather-taken.ensures.grown, c.gather-taken.ensures.within));
-      read = rw (← c.self.view_is) (goes_on _ _ _ (block_takes c.self.inside.cursor c.self.inside.interfaces.items c.self.inside.part.items c.self.inside.tail.items (take c.gather-taken.result c.args.piece.now) c.gather-taken.new.part.items _ _ this.going.accepted this.going.partial this.stage b.none b.packet c.gather-taken.ensures.moved));
-      accepted = this.going.accepted;
-      refused = tt;
-      stopped = tt;
+      some = omega (arith, c.gather-taken.ensures.taken, first, b.partial, this.going.more);
+      steps = record {
+        within = c.gather-taken.ensures.within;
+        counted = rw (← c.self.view_is, this.stage) (omega (arith, c.gather-taken.ensures.grown));
+        bounded = rw (← c.self.view_is, this.stage) (omega (arith, c.gather-taken.ensures.grown, c.gather-taken.ensures.within));
+        read = rw (← c.self.view_is) (goes_on _ _ _ (block_takes c.self.inside.cursor c.self.inside.interfaces c.self.inside.part.items c.self.inside.tail.items (take c.gather-taken.result c.args.piece.now) c.gather-taken.new.part.items _ _ this.going.accepted this.going.partial this.stage b.none b.packet c.gather-taken.ensures.moved));
+        accepted = this.going.accepted;
+        refused = tt;
+        stopped = tt;
+      };
     }
 
 pub kind_at-kind-requires : goal.kind_at-kind-requires
@@ -72,57 +78,46 @@ kind_at-kind-requires c =
     (omega (arith, need, slice, c.if-part-block_need.false)) in
     omega (arith, slice, came.0)
 
-pub after_block-self-inside-requires-clause-long : goal.after_block-self-inside-requires-clause-long
-after_block-self-inside-requires-clause-long c =
+pub after_block-self-inside-requires : goal.after_block-self-inside-requires
+after_block-self-inside-requires c =
     let this = rw (← c.self.view_is) at c.requires in
     let b = block_begun c.self.invariant this in
+    let accepted = rw (c.block_refusal-refusal.ensures, c.as_slice-part.ensures.value) at c.in-None.is in
     let need = rw c.as_slice-part.ensures.value at c.block_need.ensures in
     let slice = ap length c.as_slice-part.ensures.value in
     let first = rw c.as_slice.ensures.value at c.block_need-need.ensures in
     let came = block_came c.self.inside.cursor.order c.self.inside.part.items c.args.piece.now c.gather-taken.new.part.items c.gather-taken.result b.partial (rw first at c.gather-taken.ensures.taken) c.gather-taken.ensures.moved
     (omega (arith, need, slice, c.if-part-block_need.false)) in
-    omega (arith, slice, came.0)
+    rw c.as_slice-part.ensures.value (head_taken _ _ _ _ came accepted)
 
-pub after_block-self-inside-requires-clause-whole : goal.after_block-self-inside-requires-clause-whole
-after_block-self-inside-requires-clause-whole c =
+pub returns : goal.returns
+returns c =
     let this = rw (← c.self.view_is) at c.requires in
     let b = block_begun c.self.invariant this in
+    let accepted = rw (c.block_refusal-refusal.ensures, c.as_slice-part.ensures.value) at c.in-None.is in
     let need = rw c.as_slice-part.ensures.value at c.block_need.ensures in
     let slice = ap length c.as_slice-part.ensures.value in
     let first = rw c.as_slice.ensures.value at c.block_need-need.ensures in
     let came = block_came c.self.inside.cursor.order c.self.inside.part.items c.args.piece.now c.gather-taken.new.part.items c.gather-taken.result b.partial (rw first at c.gather-taken.ensures.taken) c.gather-taken.ensures.moved
     (omega (arith, need, slice, c.if-part-block_need.false)) in
-    rw c.as_slice-part.ensures.value came.1
-
-pub returns-clause-steps : goal.returns-clause-steps
-returns-clause-steps c =
-    let this = rw (← c.self.view_is) at c.requires in
-    let b = block_begun c.self.invariant this in
-    let accepted = rw (c.block_refusal-refusal.ensures, c.as_slice-part.ensures.value, c.as_slice-interfaces.ensures.value) at c.in-None.is in
-    let need = rw c.as_slice-part.ensures.value at c.block_need.ensures in
-    let slice = ap length c.as_slice-part.ensures.value in
-    let first = rw c.as_slice.ensures.value at c.block_need-need.ensures in
-    let came = block_came c.self.inside.cursor.order c.self.inside.part.items c.args.piece.now c.gather-taken.new.part.items c.gather-taken.result b.partial (rw first at c.gather-taken.ensures.taken) c.gather-taken.ensures.moved
-    (omega (arith, need, slice, c.if-part-block_need.false)) in
-    let d = c.after_block-self-inside.ensures in
-    let after = d.next in
-    let next = rw (c.as_slice-part.ensures.value, c.as_slice-interfaces.ensures.value) at after in
-    let sized = d.size in
-    let size = rw c.as_slice-part.ensures.value at sized in
+    let moved = c.after_block-self-inside.ensures in
+    let d = rw c.as_slice-part.ensures.value at moved in
     let of_kind = rw c.as_slice-part.ensures.value at c.kind_at-kind.ensures in
-    let others = c.settle.ensures.exact ∙ ap (λ k. interfaces_after k c.self.inside.interfaces.items) of_kind in
-    let passed = d.entered.passed in
-    let zero = inside_size c.after_block-self-inside.result c.gather-taken.new.part.items c.clear.new.self.items d.entered.inside c.clear.ensures.items in
+    let others = c.settle.ensures ∙ ap (λ k. interfaces_after k c.self.inside.interfaces) of_kind in
+    let zero = inside_size c.after_block-self-inside.result c.gather-taken.new.part.items c.clear.new.self.items d.inside c.clear.ensures.items in
     record {
-      within = c.gather-taken.ensures.within;
-      counted = rw (← c.self.view_is, this.stage) (omega (arith, c.gather-taken.ensures.grown, passed, slice, zero, d.same));
-      bounded = rw (← c.self.view_is, this.stage) (omega (arith, c.gather-taken.ensures.grown, c.gather-taken.ensures.within, passed, slice, zero, d.same));
-      read = rw (← c.self.view_is) (goes_on _ _ _ (block_ends c.self.inside.cursor c.after_block-self-inside.result c.self.inside.interfaces.items c.settle.new.interfaces.items c.self.inside.part.items c.self.inside.tail.items (take c.gather-taken.result c.args.piece.now) c.gather-taken.new.part.items c.clear.new.self.items _ _ this.going.accepted this.going.partial this.stage b.none b.packet c.gather-taken.ensures.moved
-          came.0 came.1 accepted
-          (ap (λ z. place_of c.after_block-self-inside.result z c.gather-taken.new.part.items) others ∙ next) size d.entered.inside c.clear.ensures.items));
-      accepted = this.going.accepted;
-      refused = tt;
-      stopped = tt;
+      some = omega (arith, c.gather-taken.ensures.taken, first, b.partial, this.going.more);
+      steps = record {
+        within = c.gather-taken.ensures.within;
+        counted = rw (← c.self.view_is, this.stage) (omega (arith, c.gather-taken.ensures.grown, d.passed, zero));
+        bounded = rw (← c.self.view_is, this.stage) (omega (arith, c.gather-taken.ensures.grown, c.gather-taken.ensures.within, d.passed, zero));
+        read = rw (← c.self.view_is) (goes_on _ _ _ (block_ends c.self.inside.cursor c.after_block-self-inside.result c.self.inside.interfaces c.settle.new.self c.self.inside.part.items c.self.inside.tail.items (take c.gather-taken.result c.args.piece.now) c.gather-taken.new.part.items c.clear.new.self.items _ _ this.going.accepted this.going.partial this.stage b.none b.packet c.gather-taken.ensures.moved
+            came.0 came.1 accepted
+            (ap (λ z. place_of c.after_block-self-inside.result z c.gather-taken.new.part.items) others ∙ d.place) d.size d.inside c.clear.ensures.items));
+        accepted = this.going.accepted;
+        refused = tt;
+        stopped = tt;
+      };
     }
 
 pub invariant_of-self-2 : goal.invariant_of-self-2
@@ -130,21 +125,17 @@ invariant_of-self-2 c =
     let this = rw (← c.self.view_is) at c.requires in
     let b = block_begun c.self.invariant this in
     let slice = ap length c.as_slice-part.ensures.value in
-    let d = c.after_block-self-inside.ensures in
+    let moved = c.after_block-self-inside.ensures in
+    let d = rw c.as_slice-part.ensures.value at moved in
     let bounded = rw this.stage at this.going.bounded in
-    let headed = d.entered.head in
-    let head = rw c.as_slice-part.ensures.value at headed in
-    let interfaces = ap length c.as_slice-interfaces.ensures.value in
-    let passed = d.entered.passed in
-    let zero = inside_size c.after_block-self-inside.result c.gather-taken.new.part.items c.clear.new.self.items d.entered.inside c.clear.ensures.items in
+    let of_kind = rw c.as_slice-part.ensures.value at c.kind_at-kind.ensures in
+    let others = c.settle.ensures ∙ ap (λ k. interfaces_after k c.self.inside.interfaces) of_kind in
+    let zero = inside_size c.after_block-self-inside.result c.gather-taken.new.part.items c.clear.new.self.items d.inside c.clear.ensures.items in
     record {
       front_room = omega (arith, c.self.invariant.front_room, c.gather-taken.ensures.capacity);
       tail_room = omega (arith, c.self.invariant.tail_room, c.clear.ensures.capacity);
-      interface_room = omega (arith, c.self.invariant.interface_room, c.settle.ensures.capacity);
-      resolved = c.settle.ensures.resolved;
-      described = d.entered.resolved;
-      head = head;
-      bounded = omega (arith, c.gather-taken.ensures.grown, c.gather-taken.ensures.within, passed, slice, zero, d.same);
-      reading = is_reading _ _ _ _ _ this.going.accepted this.going.partial (inside_part c.after_block-self-inside.result c.settle.new.interfaces.items c.gather-taken.new.part.items c.clear.new.self.items _ _ d.entered
-          (room_less _ _ _ (omega (arith, interfaces, c.settle.ensures.fewer)) d.room) c.clear.ensures.items);
+      described = d.resolved;
+      head = d.head;
+      bounded = omega (arith, c.gather-taken.ensures.grown, c.gather-taken.ensures.within, d.passed, zero);
+      reading = is_reading _ _ _ _ _ this.going.accepted this.going.partial (inside_part c.after_block-self-inside.result c.settle.new.self c.gather-taken.new.part.items c.clear.new.self.items d.inside d.ahead d.unpacked (rw others d.room) c.clear.ensures.items);
     }

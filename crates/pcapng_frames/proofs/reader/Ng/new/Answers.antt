@@ -10,11 +10,9 @@ pub invariant_of-result : goal.invariant_of-result
 invariant_of-result c = record {
   front_room = search rules;
   tail_room = search rules;
-  interface_room = search rules;
-  resolved = search rules;
   described = tt;
   head = tt;
   bounded = search rules;
-  reading = block_begins (record { stage = stage.Block; order = None; interface = None; start = 0; total = 0; left = 0; skip = 0; packet = None }) c.in-Ok.interfaces.items
-      c.in-Ok-with_capacity.part.items c.in-Ok-with_capacity.part.items refl refl refl refl c.in-Ok-with_capacity.ensures.items;
+  reading = block_begins (record { stage = stage.Block; order = None; interface = None; start = 0; total = 0; left = 0; skip = 0; packet = None }) c.in_ok-interfaces.interfaces
+      c.in-Ok.part.items c.in-Ok.part.items refl refl refl refl c.in-Ok.ensures.items;
 }

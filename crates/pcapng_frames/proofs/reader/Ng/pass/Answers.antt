@@ -9,8 +9,6 @@ invariant_of-self c =
     record {
       front_room = c.self.invariant.front_room;
       tail_room = c.self.invariant.tail_room;
-      interface_room = c.self.invariant.interface_room;
-      resolved = c.self.invariant.resolved;
       described = c.self.invariant.described;
       head = c.self.invariant.head;
       bounded = omega (arith, room, before_block _ _ next, ap length next.untaken);

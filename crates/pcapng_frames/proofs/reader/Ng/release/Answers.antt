@@ -23,12 +23,10 @@ invariant_of-self c =
     record {
       front_room = omega (arith, c.self.invariant.front_room, c.clear.ensures.capacity);
       tail_room = omega (arith, c.self.invariant.tail_room, c.clear-2.ensures.capacity);
-      interface_room = omega (arith, c.self.invariant.interface_room, c.add_described.ensures.capacity);
-      resolved = c.add_described.ensures.resolved;
       described = rw d.interface tt;
       head = head_none _ _ _ d.packet;
       bounded = rw d.stage (omega (arith, c.self.invariant.bounded, passed_whole _ c.self.inside.cursor.skip c.self.inside.cursor.left c.self.inside.cursor.total w.at_trailer, w.trailer, w.passed, w.total, d.start, ap length c.clear.ensures.items));
-      reading = is_reading _ _ _ _ _ g.0 refl (rw (part_in_block c.after_trailer-self-inside.result.stage c.clear.new.self.items c.clear-2.new.self.items d.stage) (block_begins c.after_trailer-self-inside.result c.add_described.new.interfaces.items c.clear.new.self.items c.clear.new.self.items d.stage d.skip d.interface d.packet c.clear.ensures.items));
+      reading = is_reading _ _ _ _ _ g.0 refl (rw (part_in_block c.after_trailer-self-inside.result.stage c.clear.new.self.items c.clear-2.new.self.items d.stage) (block_begins c.after_trailer-self-inside.result c.add_described.new.self c.clear.new.self.items c.clear.new.self.items d.stage d.skip d.interface d.packet c.clear.ensures.items));
     }
 
 pub returns-then-not-is_whole-clause-releases : goal.returns-then-not-is_whole-clause-releases
@@ -41,7 +39,7 @@ returns-clause-releases c =
     let g = held_going _ _ _ some in
     let w = is_whole _ _ _ _ _ g.0 g.1 c.self.invariant.reading in
     let d = c.after_trailer-self-inside.ensures in
-    let next = ap (λ x. place_of c.after_trailer-self-inside.result x c.clear.new.self.items) c.add_described.ensures.exact ∙ d.next c.clear.new.self.items c.self.inside.part.items c.self.inside.interfaces.items in
+    let next = ap (λ x. place_of c.after_trailer-self-inside.result x c.clear.new.self.items) c.add_described.ensures ∙ d.place c.clear.new.self.items c.self.inside.part.items c.self.inside.interfaces in
     rw (← c.self.view_is) (record {
       given_up = λ bytes records h. gives_up _ _ _ _ _ _ bytes _ _ _ records g.0 g.1 refl next d.skip (part_in_block c.after_trailer-self-inside.result.stage c.clear.new.self.items c.clear-2.new.self.items d.stage ∙ c.clear.ensures.items) h;
       free = held_free c.self.inside.refusal _;
