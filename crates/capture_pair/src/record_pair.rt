@@ -1,6 +1,6 @@
 //! Two captures whose records are taken one at a time.
 
-ghost use Rattle.std.specs.Prelude.{◌≡◌, ◌+◌, ◌^◌, ◌<◌, ◌≤◌, ◌++◌, ◌∷◌, [], ℕ, true, false, List, length, slice_get, None, Some, IfNone, IfOk, OnErr, OnOk};
+ghost use Rattle.std.specs.Prelude.{◌≡◌, ◌+◌, ◌^◌, ◌<◌, ◌≤◌, ◌++◌, ◌∷◌, [], ℕ, true, false, List, length, slice_get, None, Some, IfNone, IfOk, MatchResult, OnErr, OnOk};
 ghost use Rattle.std.specs.Option.{option_to_list};
 ghost use Rattle.pcap_frames.specs.Capture.{Record};
 ghost use Rattle.pcap_frames.specs.Reading.{shown};
@@ -156,8 +156,9 @@ fn take(
 ) -> Result<(), NoMemory>
     requires ready { IsReadyOn which a.old.listener b.old.listener }
     requires time { IsArrival held.now.arrival }
-    ensures took { OnOk result (TookOn which (shown held.now) a.old.listener b.old.listener a.new.listener b.new.listener) }
-    ensures same { OnErr result ((a.new ≡ a.old) × (b.new ≡ b.old)) }
+    ensures { MatchResult result
+        (λ ok. TookOn which (shown held.now) a.old.listener b.old.listener a.new.listener b.new.listener)
+        (λ no_memory. (a.new ≡ a.old) × (b.new ≡ b.old)) }
 {
     match which {
         Which::A => take_one(alloc, a, held),
@@ -168,8 +169,9 @@ fn take(
 fn take_one(alloc: Global, source: &mut RecordSource, held: &RecordView<'_>) -> Result<(), NoMemory>
     requires ready { IsReady source.old.listener }
     requires time { IsArrival held.now.arrival }
-    ensures took { OnOk result (Took (shown held.now) source.old.listener source.new.listener) }
-    ensures same { OnErr result (source.new ≡ source.old) }
+    ensures { MatchResult result
+        (λ ok. Took (shown held.now) source.old.listener source.new.listener)
+        (λ no_memory. source.new ≡ source.old) }
 {
     source.listener.take_record(alloc, held)?;
     Ok(())

@@ -1,6 +1,6 @@
 //! The matching of what two listeners show.
 
-ghost use Rattle.std.specs.Prelude.{◌≡◌, ◌⊎◌, ◌+◌, ◌<◌, ◌≤◌, List, ℕ, Some, None, IfNone, IsSome, length, slice_get};
+ghost use Rattle.std.specs.Prelude.{◌≡◌, ◌+◌, ◌≤◌, List, ℕ, Some, IfNone, length, slice_get};
 ghost use Rattle.std.specs.Option.{option_to_list};
 ghost use Rattle.sample_schedule.specs.declared.shown.Shown.{Shown as ShownValue};
 ghost use Rattle.listener.specs.Laws.{presented_of};
@@ -8,7 +8,7 @@ ghost use Rattle.listener_pair.specs.Differences.{differences};
 ghost use Rattle.listener_pair.specs.Merged.{known, merged};
 ghost use Rattle.listener_pair.specs.Matching.{IsIdle, nexts_left, wanted};
 ghost use Rattle.capture_pair.specs.Pairing.{Pairs};
-ghost use Rattle.capture_pair.specs.state.Sides.{Filled, Fills, Holds, IsBounded, IsHeard, IsSettled, MatchesOn, Taken, handed, is_passed, open_sides, wants_side};
+ghost use Rattle.capture_pair.specs.state.Sides.{Filled, Fills, Holds, IsBounded, IsHeard, IsSettled, MatchesOn, Shrinks, ShrinksOn, StaysSettled, Taken, handed, is_passed, wants_side};
 
 use crate::source::Source;
 use listener_pair::{Difference, Matching, Which};
@@ -55,9 +55,7 @@ fn fill<S: Source>(source: &mut S, matching: &mut Matching, which: Which)
     ensures filled { (taken : Taken) (list other : List ShownValue) (n k given : ℕ) → S.shows source.old taken list n → IsHeard list → IsHeard other → MatchesOn which list other n k given matching.old → Filled (S.shows source.new taken) which list other k given matching.new }
     ensures fills { Fills which (S.kept source.old).ended (S.is_quiet source.new) matching.old matching.new }
     ensures kept { S.kept source.new ≡ S.kept source.old }
-    ensures less { S.work source.new + open_sides matching.new ≤ S.work source.old + open_sides matching.old }
-    ensures fewer { wanted matching.old ≡ Some which → (wanted matching.new ≡ Some which) ⊎ (S.work source.new + open_sides matching.new < S.work source.old + open_sides matching.old) }
-    ensures nexts { S.work source.new + nexts_left matching.new ≤ S.work source.old + nexts_left matching.old }
+    ensures shrinks { ShrinksOn which (S.work source.old) (S.work source.new) matching.old matching.new }
 {
     if !is_wanted(matching, which) {
         return;
@@ -76,12 +74,8 @@ fn fill<S: Source>(source: &mut S, matching: &mut Matching, which: Which)
 pub fn fill_both<S: Source>(a: &mut S, b: &mut S, matching: &mut Matching)
     requires bounded { IsBounded (S.kept a.old).ended (S.kept b.old).ended matching.old }
     ensures pairs { (ta tb : Taken) (list other : List ShownValue) (given : ℕ) → IsHeard list → IsHeard other → Holds (S.shows a.old ta) (S.shows b.old tb) list other given matching.old → Pairs (S.shows a.new ta) (S.shows b.new tb) list other given matching.new }
-    ensures settled { IsSettled (S.kept a.new).ended (S.kept b.new).ended (S.is_quiet a.new) (S.is_quiet b.new) matching.new }
-    ensures kept_a { S.kept a.new ≡ S.kept a.old }
-    ensures kept_b { S.kept b.new ≡ S.kept b.old }
-    ensures same { wanted matching.old ≡ None → matching.new ≡ matching.old }
-    ensures less { IsSome (wanted matching.old) → wanted matching.new ≡ None → (S.work a.new + S.work b.new) + open_sides matching.new < (S.work a.old + S.work b.old) + open_sides matching.old }
-    ensures nexts { (S.work a.new + S.work b.new) + nexts_left matching.new ≤ (S.work a.old + S.work b.old) + nexts_left matching.old }
+    ensures stays { StaysSettled (S.kept a.old) (S.kept a.new) (S.kept b.old) (S.kept b.new) (S.is_quiet a.new) (S.is_quiet b.new) matching.new }
+    ensures shrinks { Shrinks (S.work a.old + S.work b.old) (S.work a.new + S.work b.new) matching.old matching.new }
 {
     fill(a, matching, Which::A);
     fill(b, matching, Which::B);
@@ -95,15 +89,13 @@ pub fn next_difference<S: Source>(
     b: &mut S,
     matching: &mut Matching,
 ) -> Option<Difference>
-    requires settled { IsSettled (S.kept a.old).ended (S.kept b.old).ended (S.is_quiet a.old) (S.is_quiet b.old) matching.old }
+    requires { IsSettled (S.kept a.old).ended (S.kept b.old).ended (S.is_quiet a.old) (S.is_quiet b.old) matching.old }
     ensures given { (ta tb : Taken) (list other : List ShownValue) (given : ℕ) → IsHeard list → IsHeard other → Pairs (S.shows a.old ta) (S.shows b.old tb) list other given matching.old
         → result ≡ slice_get (differences (known (S.kept a.old).ended (S.kept b.old).ended (merged (presented_of list) (presented_of other)))) given }
     ensures pairs { (ta tb : Taken) (list other : List ShownValue) (given : ℕ) → IsHeard list → IsHeard other → Pairs (S.shows a.old ta) (S.shows b.old tb) list other given matching.old
         → Pairs (S.shows a.new ta) (S.shows b.new tb) list other (given + length (option_to_list result)) matching.new }
-    ensures settled { IsSettled (S.kept a.new).ended (S.kept b.new).ended (S.is_quiet a.new) (S.is_quiet b.new) matching.new }
+    ensures stays { StaysSettled (S.kept a.old) (S.kept a.new) (S.kept b.old) (S.kept b.new) (S.is_quiet a.new) (S.is_quiet b.new) matching.new }
     ensures idle { IfNone result (IsIdle matching.new) }
-    ensures kept_a { S.kept a.new ≡ S.kept a.old }
-    ensures kept_b { S.kept b.new ≡ S.kept b.old }
     ensures less { ((S.work a.new + S.work b.new) + nexts_left matching.new) + length (option_to_list result) ≤ (S.work a.old + S.work b.old) + nexts_left matching.old }
 {
     if matching.wants().is_some() {

@@ -1,13 +1,13 @@
 //! A whole capture at once.
 
-ghost use Rattle.std.specs.Prelude.{◌≡◌, ◌+◌, ◌≤◌, ◌^◌, ◌++◌, [], ℕ, ℤ, false, true, List, IfOk, OnOk, length};
+ghost use Rattle.std.specs.Prelude.{◌≡◌, ◌+◌, ◌≤◌, ◌^◌, [], ℕ, ℤ, true, List, IfOk, OnOk, length};
 ghost use Rattle.packet_journal.specs.Packets.{PacketJournal};
 ghost use Rattle.pcap_frames.specs.Capture.{first_refusal, whole_records};
 ghost use Rattle.pcap_frames.specs.Reading.{taken};
 ghost use Rattle.sample_schedule.specs.declared.shown.Shown.{Shown as ShownItem};
 ghost use Rattle.sample_schedule.specs.Limits.{IsPlan};
-ghost use Rattle.listener.specs.Feeding.{IsQuiet, IsReady, Keeps, StandsFor, is_ended, out};
-ghost use Rattle.listener.specs.state.Feeding.{HasGiven};
+ghost use Rattle.listener.specs.Feeding.{StandsFor, is_ended};
+ghost use Rattle.listener.specs.state.Feeding.{CanFeed, FeedsPiece, GivesAll, HasGiven};
 ghost use Rattle.listener.specs.Headline.{KeepsHeadline};
 ghost use Rattle.listener.specs.Heard.{counts_of, heard_of, schedule_plan, shown_of};
 ghost use Rattle.listener.specs.Laws.{HearsTalker};
@@ -21,10 +21,7 @@ use std::alloc::Global;
 
 /// Puts all items that are due into a list.
 pub(crate) fn give_all(listener: &mut Listener, list: &mut Vec<Shown>) -> Result<(), NoMemory>
-    ensures given { OnOk result ((bytes : List ℕ) → HasGiven bytes list.old.items listener.old → HasGiven bytes list.new.items listener.new) }
-    ensures all { OnOk result ((bytes : List ℕ) → HasGiven bytes list.old.items listener.old → list.new.items ≡ out listener.new bytes) }
-    ensures quiet { OnOk result (IsQuiet listener.new) }
-    ensures keeps { OnOk result (Keeps listener.old listener.new) }
+    ensures { OnOk result (GivesAll list.old.items list.new.items listener.old listener.new) }
 {
     while let Some(shown) = listener.next_out() {
         list.push(shown)?;
@@ -40,14 +37,9 @@ pub(crate) fn feed_piece(
     piece: &[u8],
     list: &mut Vec<Shown>,
 ) -> Result<(), NoMemory>
-    requires open { is_ended listener.old ≡ false }
-    requires ready { IsReady listener.old }
+    requires ready { CanFeed listener.old }
     requires bounded { taken listener.old.reader + length piece.now ≤ 2 ^ 62 }
-    ensures given { OnOk result ((bytes : List ℕ) → HasGiven bytes list.old.items listener.old → HasGiven (bytes ++ piece.now) list.new.items listener.new) }
-    ensures plan { OnOk result (listener.new.listener.plan ≡ listener.old.listener.plan) }
-    ensures open { OnOk result (is_ended listener.new ≡ false) }
-    ensures ready { OnOk result (IsReady listener.new) }
-    ensures bounded { OnOk result (taken listener.new.reader ≤ taken listener.old.reader + length piece.now) }
+    ensures { OnOk result (FeedsPiece piece.now list.old.items list.new.items listener.old listener.new) }
 {
     let mut used = 0;
     while used < piece.len() {
@@ -65,8 +57,7 @@ pub(crate) fn feed_piece(
 
 /// Ends the capture, and returns its first refusal.
 fn end(listener: &mut Listener) -> Option<Refusal>
-    requires open { is_ended listener.old ≡ false }
-    requires ready { IsReady listener.old }
+    requires { CanFeed listener.old }
     ensures given { (bytes : List ℕ) (list : List ShownItem) → HasGiven bytes list listener.old → HasGiven bytes list listener.new }
     ensures refused { (bytes : List ℕ) (given : ℕ) → StandsFor bytes given listener.old → result ≡ first_refusal bytes }
     ensures plan { listener.new.listener.plan ≡ listener.old.listener.plan }
@@ -81,8 +72,7 @@ fn end(listener: &mut Listener) -> Option<Refusal>
 /// What a new listener shows of a whole capture.
 fn hear(alloc: Global, listener: &mut Listener, bytes: &[u8]) -> Result<Heard, NoMemory>
     requires begun { StandsFor [] 0 listener.old }
-    requires open { is_ended listener.old ≡ false }
-    requires ready { IsReady listener.old }
+    requires ready { CanFeed listener.old }
     requires bounded { taken listener.old.reader + length bytes.now ≤ 2 ^ 62 }
     ensures { IfOk result (λ heard. heard ≡ heard_of listener.old.listener.plan bytes.now) }
 {

@@ -1,6 +1,6 @@
 //! What a listener shows of a capture that is fed in pieces.
 
-ghost use Rattle.std.specs.Prelude.{◌≡◌, ◌⊎◌, ◌↔◌, ◌+◌, ◌^◌, ◌<◌, ◌≤◌, ◌++◌, [], ℕ, true, false, List, length, slice_get, take, None, Some, Err, IfNone, IfOk, IsSome, OnErr, OnOk, option_map};
+ghost use Rattle.std.specs.Prelude.{◌≡◌, ◌⊎◌, ◌↔◌, ◌+◌, ◌^◌, ◌<◌, ◌≤◌, ◌++◌, [], ℕ, true, false, List, length, slice_get, take, None, Some, Err, IfNone, IfOk, IsSome, MatchResult, OnErr, OnOk, option_map};
 ghost use Rattle.std.specs.Option.{option_to_list};
 ghost use Rattle.std.specs.Result.{result_err};
 ghost use Rattle.avtp_base.specs.declared.refusal.Refusal.{Refusal as RefusalValue};
@@ -10,9 +10,9 @@ ghost use Rattle.pcap_frames.specs.Reading.{IsNext, Passes, held as held_by, tak
 ghost use Rattle.sample_schedule.specs.Limits.{IsPlan};
 ghost use Rattle.sample_schedule.specs.Verdicts.{total_bytes};
 ghost use Rattle.listener.specs.Feeding.{IsQuiet, IsReady, Keeps, StandsFor, bytes_after, is_ended, is_memory, out, work};
-ghost use Rattle.listener.specs.state.Feeding.{HasHeard};
+ghost use Rattle.listener.specs.state.Feeding.{HearsNext};
+ghost use Rattle.listener.specs.state.Listening.{Rests};
 ghost use Rattle.listener.specs.Heard.{counts_of, schedule_plan};
-ghost use Rattle.listener.specs.Listening.{IsIdle, is_closed};
 ghost use Rattle.listener.specs.declared.listener.ListenFault.TheVariants.{Refused as IsRefused, Memory as OutOfMemory};
 
 use crate::heard::Counts;
@@ -229,16 +229,14 @@ fn take_lent(
     listener: &mut RecordListener,
     piece: &[u8],
 ) -> Result<(), NoMemory>
-    requires open { is_closed listener.old ≡ false }
-    requires idle { IsIdle listener.old }
+    requires rests { Rests listener.old }
     requires few { listener.old.counts.frames < 2 ^ 62 }
     requires next { IsNext reader.old piece.now }
     requires bounded { taken reader.old + length piece.now ≤ 2 ^ 62 }
-    ensures heard { OnOk result ((bytes : List ℕ) (given : ℕ) → HasHeard bytes given reader.old listener.old → HasHeard (bytes ++ piece.now) given reader.new listener.new) }
-    ensures passed { OnOk result (Passes reader.old piece.now reader.new) }
-    ensures frames { listener.new.counts.frames ≤ listener.old.counts.frames + 1 }
-    ensures plan { (listener.new.plan ≡ listener.old.plan) × (is_closed listener.new ≡ false) }
-    ensures same { OnErr result ((listener.new ≡ listener.old) × (reader.new ≡ reader.old)) }
+    ensures hears { HearsNext (λ bytes. bytes ++ piece.now) 1 reader.old reader.new listener.old listener.new result }
+    ensures passed { MatchResult result
+        (λ ok. Passes reader.old piece.now reader.new)
+        (λ no_memory. reader.new ≡ reader.old) }
 {
     listener.take_record(alloc, &reader.lend(piece))?;
     reader.pass(piece);
@@ -251,15 +249,11 @@ fn take_held(
     reader: &mut Reader,
     listener: &mut RecordListener,
 ) -> Result<(), NoMemory>
-    requires open { is_closed listener.old ≡ false }
-    requires idle { IsIdle listener.old }
+    requires rests { Rests listener.old }
     requires few { IsSome (held_by reader.old) → listener.old.counts.frames < 2 ^ 62 }
-    ensures heard { OnOk result ((bytes : List ℕ) (given : ℕ) → HasHeard bytes given reader.old listener.old → HasHeard bytes given reader.new listener.new) }
+    ensures hears { HearsNext (λ bytes. bytes) (length (option_to_list (held_by reader.old))) reader.old reader.new listener.old listener.new result }
     ensures free { OnOk result (held_by reader.new ≡ None) }
     ensures read { (taken reader.new ≡ taken reader.old) × (reader.new.refusal ≡ reader.old.refusal) }
-    ensures frames { listener.new.counts.frames ≤ listener.old.counts.frames + length (option_to_list (held_by reader.old)) }
-    ensures plan { (listener.new.plan ≡ listener.old.plan) × (is_closed listener.new ≡ false) }
-    ensures same { OnErr result (listener.new ≡ listener.old) }
 {
     let Some(held) = reader.held() else {
         return Ok(());

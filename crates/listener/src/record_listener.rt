@@ -1,20 +1,16 @@
 //! What a listener shows, from one record of a capture at a time.
 
-ghost use Rattle.std.specs.Prelude.{◌≡◌, ◌+◌, ◌^◌, ◌<◌, ◌≤◌, ◌++◌, ◌∷◌, [], ℕ, true, false, List, length, map, slice_get, None, IfNone, IfOk, OnErr, OnOk};
+ghost use Rattle.std.specs.Prelude.{◌≡◌, ◌+◌, ◌^◌, ◌<◌, ◌≤◌, ◌++◌, ◌∷◌, [], ℕ, true, false, List, length, slice_get, None, IfNone, IfOk, OnErr, OnOk};
 ghost use Rattle.std.specs.Option.{option_to_list};
 ghost use Rattle.pcap_frames.specs.Capture.{Record};
 ghost use Rattle.pcap_frames.specs.Reading.{shown};
-ghost use Rattle.sample_schedule.specs.declared.entry.Entry.{Entry as EntryValue};
-ghost use Rattle.sample_schedule.specs.Judge.{IsIdle as IsIdleJudge, taken};
+ghost use Rattle.sample_schedule.specs.Judge.{IsIdle as IsIdleJudge};
 ghost use Rattle.sample_schedule.specs.Limits.{IsPlan};
 ghost use Rattle.sample_schedule.specs.Verdicts.{total_bytes};
 ghost use Rattle.time_unfold.specs.Time.{IsArrival};
-ghost use Rattle.packet_journal.specs.Deliveries.{Delivery};
-ghost use Rattle.listener.specs.Gathering.{HasUnits, left};
 ghost use Rattle.listener.specs.Heard.{schedule_plan};
-ghost use Rattle.listener.specs.Items.{given_by, made_entry};
-ghost use Rattle.listener.specs.Listening.{IsIdle, Judges, Keeps, StandsFor, is_closed, out, work};
-ghost use Rattle.listener.specs.state.Listening.{Closes, JudgesNext, shown_by};
+ghost use Rattle.listener.specs.Listening.{IsIdle, Keeps, StandsFor, is_closed, out, work};
+ghost use Rattle.listener.specs.state.Listening.{CanJudge, CanTake, Closes, GivesNext, HasTaken, JudgesNext, ShowsNext};
 ghost use Rattle.listener.specs.state.Views.{delivery_shape};
 
 use crate::buffer_pool::BufferPool;
@@ -164,11 +160,7 @@ impl RecordListener {
     #[inline(always)]
     pub(crate) fn put_next(&mut self, next: &mut Option<Shown>)
         requires { next.old ≡ None }
-        ensures given { (records : List Record) (given : ℕ) → StandsFor records given self.old → next.new ≡ slice_get (out self.old records) given }
-        ensures stands { (records : List Record) (given : ℕ) → StandsFor records given self.old → StandsFor records (given + length (option_to_list next.new)) self.new }
-        ensures idle { IfNone next.new (IsIdle self.new) }
-        ensures keeps { Keeps self.old self.new }
-        ensures less { work self.new + length (option_to_list next.new) ≤ work self.old }
+        ensures { GivesNext self.old self.new next.new }
     {
         if self.idle {
             return;
@@ -232,16 +224,9 @@ fn take_delivery(
     judge: &mut Judge,
     delivery: &DeliveryView<'_>,
 ) -> Result<(), NoMemory>
-    requires open { judge.old.closed ≡ false }
-    requires idle { IsIdleJudge judge.old }
-    requires none { left units.old ≡ [] }
-    requires taken { taken judge.old < 2 ^ 62 }
+    requires ready { CanTake units.old judge.old }
     requires arrival { IsArrival delivery.now.arrival }
-    ensures units { OnOk result ((ds : List Delivery) → HasUnits ds units.old → HasUnits (ds ++ delivery_shape delivery.now ∷ []) units.new) }
-    ensures judges { OnOk result ((ds : List Delivery) (entries : List EntryValue) (given : ℕ) → HasUnits ds units.old → Judges entries given judge.old units.old → Judges (entries ++ map made_entry (given_by ds (delivery_shape delivery.now))) given judge.new units.new) }
-    ensures same { OnErr result ((judge.new ≡ judge.old) × (units.new ≡ units.old)) }
-    ensures plan { judge.new.plan ≡ judge.old.plan }
-    ensures open { judge.new.closed ≡ false }
+    ensures { HasTaken (delivery_shape delivery.now) units.old units.new judge.old judge.new result }
 {
     if delivery.subtype == subtype::CRF {
         judge.step_clock(delivery.arrival, &clock_points(delivery.packet));
@@ -257,16 +242,8 @@ fn take_delivery(
 /// and no more records follow, the judge is closed.
 #[inline(always)]
 fn next_shown(units: &mut Units, judge: &mut Judge, ended: bool, closed: &mut bool) -> Option<Shown>
-    requires closed { closed.old ≡ judge.old.closed }
-    requires over { judge.old.closed ≡ true → (ended ≡ true) × (left units.old ≡ []) }
-    requires few { taken judge.old + length (left units.old) ≤ 2 ^ 62 }
-    ensures given { (entries : List EntryValue) (given : ℕ) → Judges entries given judge.old units.old → result ≡ slice_get (shown_by ended judge.old.plan entries) given }
-    ensures judges { (entries : List EntryValue) (given : ℕ) → Judges entries given judge.old units.old → Judges entries (given + length (option_to_list result)) judge.new units.new }
-    ensures units { (ds : List Delivery) → HasUnits ds units.old → HasUnits ds units.new }
-    ensures idle { IfNone result (IsIdleJudge judge.new × (left units.new ≡ [])) }
-    ensures plan { judge.new.plan ≡ judge.old.plan }
-    ensures closed { closed.new ≡ judge.new.closed }
-    ensures over { judge.new.closed ≡ true → (ended ≡ true) × (left units.new ≡ []) }
+    requires { CanJudge ended closed.old units.old judge.old }
+    ensures { ShowsNext ended closed.new units.old units.new judge.old judge.new result }
 {
     loop {
         let next = judge.next_out();
@@ -284,12 +261,8 @@ fn next_shown(units: &mut Units, judge: &mut Judge, ended: bool, closed: &mut bo
 #[inline(always)]
 fn judge_next(units: &mut Units, judge: &mut Judge, ended: bool, closed: &mut bool) -> bool
     requires idle { IsIdleJudge judge.old }
-    requires closed { closed.old ≡ judge.old.closed }
-    requires over { judge.old.closed ≡ true → (ended ≡ true) × (left units.old ≡ []) }
-    requires few { taken judge.old + length (left units.old) ≤ 2 ^ 62 }
-    ensures step { JudgesNext ended result units.old units.new judge.old judge.new }
-    ensures units { (ds : List Delivery) → HasUnits ds units.old → HasUnits ds units.new }
-    ensures closed { closed.new ≡ judge.new.closed }
+    requires ready { CanJudge ended closed.old units.old judge.old }
+    ensures { JudgesNext ended result closed.new units.old units.new judge.old judge.new }
 {
     match units.next() {
         Some(item) => {
@@ -304,8 +277,7 @@ fn judge_next(units: &mut Units, judge: &mut Judge, ended: bool, closed: &mut bo
 fn close_ended(judge: &mut Judge, ended: bool, closed: &mut bool) -> bool
     requires idle { IsIdleJudge judge.old }
     requires closed { closed.old ≡ judge.old.closed }
-    ensures closes { Closes ended result judge.old judge.new }
-    ensures closed { closed.new ≡ judge.new.closed }
+    ensures { Closes ended result closed.new judge.old judge.new }
 {
     if !ended || *closed {
         return false;

@@ -1,6 +1,6 @@
 //! The units of H.264 that a stream's deliveries make.
 
-ghost use Rattle.std.specs.Prelude.{◌≡◌, ◌≢◌, ◌+◌, ◌++◌, ◌∷◌, [], ◌≤◌, None, vec_len, vec_capacity, List, length, map, IfOk, IfNone, IfSome, IsTrue, IsSome, OnErr, OnOk};
+ghost use Rattle.std.specs.Prelude.{◌≡◌, ◌≢◌, ◌+◌, ◌++◌, [], ◌≤◌, None, vec_len, vec_capacity, List, length, map, IfOk, IfNone, IfSome, MatchResult};
 ghost use Rattle.std.specs.Option.{option_to_list};
 ghost use Rattle.cvf_format.specs.Assembly.{longest_body};
 ghost use Rattle.cvf_format.specs.Cvf.{cvf_of, cvf_shape, cvf_subtype};
@@ -10,8 +10,8 @@ ghost use Rattle.packet_journal.specs.Deliveries.{Delivery};
 ghost use Rattle.sample_schedule.specs.Limits.{IsItem};
 ghost use Rattle.time_unfold.specs.Time.{IsArrival, Unfolds, unfolded};
 ghost use Rattle.listener.specs.Gathering.{HasUnits, item_entry, left, lost_item as lost_item_of};
-ghost use Rattle.listener.specs.state.Gathering.{Cuts, CutsFirst, Gives, Pushes, Takes, own_item as own_item_of};
-ghost use Rattle.listener.specs.Items.{given_by, left_at_end, lost_for as lost_reason, made_entry};
+ghost use Rattle.listener.specs.state.Gathering.{Cuts, CutsFirst, Gives, GivesFirst, Pushes, Takes, own_item as own_item_of};
+ghost use Rattle.listener.specs.Items.{left_at_end, lost_for as lost_reason, made_entry};
 ghost use Rattle.listener.specs.Units.{flaw_in, flaw_of, fragment_in, mark_of as mark_of_delivery};
 ghost use Rattle.listener.specs.state.Views.{delivery_shape};
 
@@ -225,8 +225,9 @@ impl Units {
         requires body { length view.now.body.now ≤ longest_body }
         requires flawless { flaw_in (cvf_shape view.now) ≡ None }
         requires arrival { IsArrival delivery.now.arrival }
-        ensures pushed { OnOk result (Pushes (delivery_shape delivery.now) (cvf_shape view.now) self.old self.new) }
-        ensures same { OnErr result (self.new ≡ self.old) }
+        ensures { MatchResult result
+            (λ ok. Pushes (delivery_shape delivery.now) (cvf_shape view.now) self.old self.new)
+            (λ no_memory. self.new ≡ self.old) }
     {
         let mark = mark_of(delivery);
         let stamp = stamp_of(delivery, view);
@@ -252,10 +253,9 @@ impl Units {
     ) -> Result<Option<Item>, NoMemory>
         requires stream { delivery.now.subtype ≢ crf_subtype }
         requires arrival { IsArrival delivery.now.arrival }
-        ensures stands { OnOk result ((ds : List Delivery) → HasUnits ds self.old → HasUnits (ds ++ delivery_shape delivery.now ∷ []) self.new) }
-        ensures gives { IfOk result (λ first. (ds : List Delivery) → HasUnits ds self.old → map item_entry (option_to_list first ++ left self.new) ≡ map made_entry (given_by ds (delivery_shape delivery.now))) }
-        ensures item { IfOk result (λ first. IfSome first IsItem) }
-        ensures same { OnErr result (self.new ≡ self.old) }
+        ensures { MatchResult result
+            (λ first. GivesFirst (delivery_shape delivery.now) self.old self.new first)
+            (λ no_memory. self.new ≡ self.old) }
     {
         if delivery.subtype != subtype::CVF {
             let item = item_of(alloc, pool, delivery)?;
@@ -274,8 +274,9 @@ impl Units {
     ) -> Result<(), NoMemory>
         requires video { delivery.now.subtype ≡ cvf_subtype }
         requires arrival { IsArrival delivery.now.arrival }
-        ensures gives { OnOk result ((ds : List Delivery) → HasUnits ds self.old → Gives ds (delivery_shape delivery.now) self.new) }
-        ensures same { OnErr result (self.new ≡ self.old) }
+        ensures { MatchResult result
+            (λ ok. (ds : List Delivery) → HasUnits ds self.old → Gives ds (delivery_shape delivery.now) self.new)
+            (λ no_memory. self.new ≡ self.old) }
     {
         match read_cvf(delivery.packet) {
             Ok(view) => self.take_packet(alloc, pool, delivery, &view)?,
@@ -294,8 +295,9 @@ impl Units {
     ) -> Result<(), NoMemory>
         requires body { length view.now.body.now ≤ longest_body }
         requires arrival { IsArrival delivery.now.arrival }
-        ensures takes { OnOk result (Takes (flaw_in (cvf_shape view.now)) (delivery_shape delivery.now) (cvf_shape view.now) self.old self.new) }
-        ensures same { OnErr result (self.new ≡ self.old) }
+        ensures { MatchResult result
+            (λ ok. Takes (flaw_in (cvf_shape view.now)) (delivery_shape delivery.now) (cvf_shape view.now) self.old self.new)
+            (λ no_memory. self.new ≡ self.old) }
     {
         match flaw(view) {
             Some(reason) => self.cut(lost_item(mark_of(delivery), reason)),

@@ -11,7 +11,7 @@ use Rattle.presenter_ring.specs.Fronts.{hand_of}
 use Rattle.presenter_ring.specs.state.Fronts.{HasFed}
 use Rattle.presenter_ring.specs.state.Backs.{HasPresented}
 use Rattle.presenter_ring.specs.Pipes.{ring_of, waiting_in, ended_with, known_free_of, pushed_by, popped_by, work, HasMoved, IsDrained, IsRound}
-use Rattle.presenter_ring.specs.state.Pipes.{IsStill, HasStepped, KeepsRing}
+use Rattle.presenter_ring.specs.state.Pipes.{IsStill, HasStepped, EmptiesHand}
 
 in_ring : (received known popped known' sent pushed : List Shown) → received ++ known ≡ sent → (received ++ popped) ++ known' ≡ sent ++ pushed → known ++ pushed ≡ popped ++ known'
 in_ring received known popped known' sent pushed old new =
@@ -63,6 +63,12 @@ module _ {R P : Type 0} (gave : R → R → List Shown → Type 0) (left : R →
     steps = λ more. omega (arith, stepped, ap length shown.receives, length-append (popped_by a) shown.presented);
   }
 
+  -- a round in which an item was pushed or popped reduces the work
+  pub less_by_turns : (r r' : R) (p p' : P) (a b : Pipe) → Fifo a → Fifo b → HasFed gave left ended r r' a.front b.front → HasPresented handed p p' a.back b.back
+      → HasStepped a b → work (left r') b < work (left r) a
+  less_by_turns r r' p p' a b old new fed shown stepped =
+      omega (arith, works_then r r' p p' a b old new fed shown, stepped, ap length shown.receives, length-append (popped_by a) shown.presented)
+
   -- if nothing moved although a slot was known to be free, no item is in `hand`
   not_past : (a b : Pipe) → IsStill a b → 0 < known_free_of a → hand_of b.front ≡ []
   not_past a b still free =
@@ -73,49 +79,49 @@ module _ {R P : Type 0} (gave : R → R → List Shown → Type 0) (left : R →
       ] refl
 
   past_works : (r r' : R) (p p' : P) (a b c : Pipe) → Fifo a → Fifo b → (fed : HasFed gave left ended r r' a.front b.front) → (shown : HasPresented handed p p' a.back b.back)
-      → IsStill a b → KeepsRing b c → hand_of c.front ≡ []
+      → IsStill a b → EmptiesHand b c
       → work (left r') c + (length (pushed_by c) + length (shown.presented ++ hand_of b.front)) ≤ work (left r) a + length (pushed_by a)
-  past_works r r' p p' a b c old new fed shown still kept emptied =
+  past_works r r' p p' a b c old new fed shown still kept =
       let before = works_then r r' p p' a b old new fed shown in
       let ring_c : length (ring_of c) ≡ 0 = ap length (ap (λ back. known_items back.consumer) kept.back ∙ still.empty) in
       let ring_b : length (ring_of b) ≡ 0 = ap length still.empty in
-      let hand_c : length (hand_of c.front) ≡ 0 = ap length emptied in
+      let hand_c : length (hand_of c.front) ≡ 0 = ap length kept.emptied in
       let pushed : length (pushed_by c) ≡ length (pushed_by b) = ap (λ producer. length (sent producer)) kept.producer in
       omega (arith, before, ring_c, ring_b, hand_c, pushed, length-append shown.presented (hand_of b.front))
 
   -- if nothing moved and no item was in `hand`, the receiver has ended and no item waits
-  drained_past : (a b c : Pipe) → IsStill a b → KeepsRing b c → hand_of c.front ≡ [] → b.front.hand ≡ None → IsDrained c
-  drained_past a b c still kept emptied none =
+  drained_past : (a b c : Pipe) → IsStill a b → EmptiesHand b c → b.front.hand ≡ None → IsDrained c
+  drained_past a b c still kept none =
       let ended : IsSome (ended_with b) = rw none at still.stuck in
       let same : ended_with c ≡ ended_with b = ap (λ (o : Option Ending). option_map pull_of o) kept.ended in
       record {
         ended = subst IsSome (sym same) ended;
-        empty = ap (λ xs. xs ++ hand_of c.front) (ap (λ back. known_items back.consumer) kept.back ∙ still.empty) ∙ emptied;
+        empty = ap (λ xs. xs ++ hand_of c.front) (ap (λ back. known_items back.consumer) kept.back ∙ still.empty) ∙ kept.emptied;
       }
 
   -- if nothing moved and the pipe is not drained, an item was in `hand`
-  steps_past : (a b c : Pipe) → IsStill a b → KeepsRing b c → hand_of c.front ≡ [] → (IsDrained c → ⊥) → length (hand_of b.front) ≡ 1
-  steps_past a b c still kept emptied more =
+  steps_past : (a b c : Pipe) → IsStill a b → EmptiesHand b c → (IsDrained c → ⊥) → length (hand_of b.front) ≡ 1
+  steps_past a b c still kept more =
       elim b.front.hand as (λ (o : Option Shown). b.front.hand ≡ o → length (hand_of b.front) ≡ 1) [
-        | None ↦ λ e. absurd (more (drained_past a b c still kept emptied e))
+        | None ↦ λ e. absurd (more (drained_past a b c still kept e))
         | Some shown ↦ λ e. rw e refl
       ] refl
 
   -- presenting the item in `hand` directly, without the ring, reduces the work
   pub less_past : (r r' : R) (p p' : P) (a b c : Pipe) → Fifo a → Fifo b → HasFed gave left ended r r' a.front b.front → HasPresented handed p p' a.back b.back
-      → IsStill a b → KeepsRing b c → hand_of c.front ≡ [] → length (hand_of b.front) ≡ 1 → work (left r') c < work (left r) a
-  less_past r r' p p' a b c old new fed shown still kept emptied one =
-      let bound = past_works r r' p p' a b c old new fed shown still kept emptied in
+      → IsStill a b → EmptiesHand b c → length (hand_of b.front) ≡ 1 → work (left r') c < work (left r) a
+  less_past r r' p p' a b c old new fed shown still kept one =
+      let bound = past_works r r' p p' a b c old new fed shown still kept in
       let pushed : length (pushed_by c) ≡ length (pushed_by a) = ap (λ producer. length (sent producer)) kept.producer ∙ ap length still.none_pushed in
       omega (arith, bound, pushed, one, length-append shown.presented (hand_of b.front))
 
   pub moved_past : (r r' : R) (p p' p'' : P) (a b c : Pipe) → Fifo a → Fifo b → HasFed gave left ended r r' a.front b.front → HasPresented handed p p' a.back b.back
-      → IsStill a b → ((begun : P) (items : List Shown) → handed begun p' items → handed begun p'' (items ++ hand_of b.front)) → KeepsRing b c → hand_of c.front ≡ []
+      → IsStill a b → ((begun : P) (items : List Shown) → handed begun p' items → handed begun p'' (items ++ hand_of b.front)) → EmptiesHand b c
       → IsRound gave left handed r r' p p'' a c
-  moved_past r r' p p' p'' a b c old new fed shown still hands kept emptied =
+  moved_past r r' p p' p'' a b c old new fed shown still hands kept =
       let hand = hand_of b.front in
       let ring : ring_of c ≡ [] = ap (λ back. known_items back.consumer) kept.back ∙ still.empty in
-      let waits : waiting_in c ≡ [] = ap (λ xs. xs ++ hand_of c.front) ring ∙ emptied in
+      let waits : waiting_in c ≡ [] = ap (λ xs. xs ++ hand_of c.front) ring ∙ kept.emptied in
       let last : waiting_in b ≡ hand = ap (λ xs. xs ++ hand) still.empty in
       record {
         moved = record {
@@ -128,14 +134,14 @@ module _ {R P : Type 0} (gave : R → R → List Shown → Type 0) (left : R →
               ∙ ap (λ xs. (shown.presented ++ hand) ++ xs) (sym waits);
           counted = kept.given ∙ fed.counted;
           leaves = fed.leaves;
-          works = past_works r r' p p' a b c old new fed shown still kept emptied;
+          works = past_works r r' p p' a b c old new fed shown still kept;
         };
         through_ring = λ free.
             let none = not_past a b still free in
             ap (λ back. received back.consumer) kept.back ∙ shown.receives
             ∙ ap (λ xs. popped_by a ++ xs) (sym (ap (λ xs. shown.presented ++ xs) none ∙ append-nil shown.presented));
         steps = λ more.
-            let one = steps_past a b c still kept emptied more in
+            let one = steps_past a b c still kept more in
             let pushed : length (pushed_by c) ≡ length (pushed_by a) = ap (λ producer. length (sent producer)) kept.producer ∙ ap length still.none_pushed in
             omega (arith, one, pushed, length-append shown.presented hand);
       }

@@ -2,3 +2,4 @@
 pub mod Backs
 pub mod Fronts
 pub mod Pipes
+pub mod Pulls

@@ -23,10 +23,9 @@ pub struct Back {
 }
 
 impl Back {
-    ghost use Rattle.std.specs.Prelude.{◌≡◌, ◌+◌, ◌<◌, ◌^◌, [], length, MatchBool, IfOk, OnErr};
-    ghost use Rattle.avtp_base.specs.Faults.{IsCounted};
-    ghost use Rattle.rtrb.specs.Ring.{received, known_items};
-    ghost use Rattle.presenter_ring.specs.state.Backs.{HasPresented, IsOneMore, IsIdle, TakesBackTurn};
+    ghost use Rattle.std.specs.Prelude.{◌+◌, ◌<◌, ◌^◌, length};
+    ghost use Rattle.rtrb.specs.Ring.{received};
+    ghost use Rattle.presenter_ring.specs.state.Backs.{PresentsNext, TakesBackTurn};
 
     /// Pops one item and presents it. Returns whether there was an item in the ring.
     fn present_next<P: Presenter, G: Gate>(
@@ -35,10 +34,7 @@ impl Back {
         gate: &G,
     ) -> Result<bool, Failed>
         requires { length (received self.old.consumer) + 1 < 2 ^ 64 }
-        ensures presented { HasPresented P.handed presenter.old presenter.new self.old self.new }
-        ensures more { IfOk result (λ more. MatchBool more (IsOneMore self.old self.new) (IsIdle self.old self.new)) }
-        ensures failed { OnErr result (IsOneMore self.old self.new) }
-        ensures counted { IsCounted (P.faults presenter.old) (P.faults presenter.new) result }
+        ensures { PresentsNext P.handed P.faults presenter.old presenter.new self.old self.new result }
     {
         match self.consumer.pop() {
             Ok(shown) => {
@@ -64,30 +60,15 @@ impl Back {
         ensures { TakesBackTurn P.handed P.faults presenter.old presenter.new self.old self.new result }
     {
         let pops = self.pops;
-        self.present_all(presenter, gate, most)?;
+        for _ in 0..most {
+            if !self.present_next(presenter, gate)? {
+                break;
+            }
+        }
         if self.pops == pops {
             return Ok(());
         }
         presenter.pause()
-    }
-
-    /// Pops and presents at most `most` items, until the ring is empty or a presentation fails.
-    fn present_all<P: Presenter, G: Gate>(
-        &mut self,
-        presenter: &mut P,
-        gate: &G,
-        most: usize,
-    ) -> Result<(), Failed>
-        requires some { 0 < most }
-        requires room { length (received self.old.consumer) + most < 2 ^ 64 }
-        ensures { TakesBackTurn P.handed P.faults presenter.old presenter.new self.old self.new result }
-    {
-        for _ in 0..most {
-            if !self.present_next(presenter, gate)? {
-                return Ok(());
-            }
-        }
-        Ok(())
     }
 }
 

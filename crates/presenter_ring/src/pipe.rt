@@ -8,7 +8,7 @@ use crate::front::Front;
 use crate::gate::Gate;
 use crate::presenter::Presenter;
 use crate::receiver::{Pull, Receiver};
-use crate::turns::{both_turns, see_all};
+use crate::turns::both_turns;
 use avtp_base::{Failed, NoMemory};
 use rtrb::RingBuffer;
 use std::alloc::Global;
@@ -40,14 +40,11 @@ pub struct Pipe {
 }
 
 impl Pipe {
-    ghost use Rattle.std.specs.Prelude.{◌≡◌, ◌+◌, ◌*◌, ◌<◌, ◌≤◌, ◌^◌, ◌++◌, [], ◌↔◌, List, None, length, IsTrue, IsSome, IfSome, IfOk, OnErr, MatchBool};
-    ghost use Rattle.avtp_base.specs.Faults.{IsCounted, Rose};
-    ghost use Rattle.sample_schedule.specs.declared.shown.Shown.{Shown as ShownValue};
-    ghost use Rattle.presenter_ring.specs.state.Backs.{HasPresented};
-    ghost use Rattle.presenter_ring.specs.Fronts.{hand_of};
-    ghost use Rattle.presenter_ring.specs.state.Fronts.{HasFed};
-    ghost use Rattle.presenter_ring.specs.Pipes.{ring_of, waiting_in, ended_with, given_to, capacity_of, known_free_of, pushed_by, popped_by, work, IsRound, IsDrained, EndsWith};
-    ghost use Rattle.presenter_ring.specs.state.Pipes.{IsStill, HasStepped, KeepsRing};
+    ghost use Rattle.std.specs.Prelude.{◌≡◌, ◌+◌, ◌*◌, ◌<◌, ◌≤◌, ◌^◌, [], ◌↔◌, None, length, IsTrue, IfSome, IfOk};
+    ghost use Rattle.avtp_base.specs.Faults.{Rose};
+    ghost use Rattle.presenter_ring.specs.state.Fronts.{CanFeed};
+    ghost use Rattle.presenter_ring.specs.Pipes.{ring_of, waiting_in, ended_with, given_to, capacity_of, known_free_of, work, IsRound, IsDrained, EndsWith};
+    ghost use Rattle.presenter_ring.specs.state.Pipes.{Advances, PresentsHand, TakesTurns};
     ghost use Rattle.presenter_ring.specs.Pulls.{items_of};
 
     /// An empty pipe whose ring has room for 1 to 256 items. Returns `NoMemory` if the ring cannot be allocated.
@@ -99,14 +96,8 @@ impl Pipe {
         presenter: &mut P,
         gate: &G,
     ) -> Result<bool, Failed>
-        requires live { ended_with self.old ≡ None → R.ended receiver.old ≡ None }
-        requires room { given_to self.old + R.left receiver.old ≤ 2 ^ 62 }
-        ensures fed { HasFed R.gave R.left R.ended receiver.old receiver.new self.old.front self.new.front }
-        ensures presented { HasPresented P.handed presenter.old presenter.new self.old.back self.new.back }
-        ensures stepped { IfOk result (λ stepped. MatchBool stepped (HasStepped self.old self.new) (IsStill self.old self.new)) }
-        ensures failed { OnErr result (HasStepped self.old self.new) }
-        ensures counted { IsCounted (P.faults presenter.old) (P.faults presenter.new) result }
-        ensures capacity { self.new.capacity ≡ self.old.capacity }
+        requires { CanFeed R.left R.ended receiver.old self.old.front }
+        ensures { TakesTurns R.gave R.left R.ended P.handed P.faults receiver.old receiver.new presenter.old presenter.new self.old self.new result }
     {
         let pushes = self.front.pushes;
         let pops = self.back.pops;
@@ -120,19 +111,17 @@ impl Pipe {
             gate,
             most,
         );
-        see_all(&mut self.front, &mut self.back);
+        // Both ends of the ring are here again, so the presenter's side can see all items that were pushed.
+        let front = &mut self.front;
+        let back = &mut self.back;
+        back.consumer.slots_beside(&mut front.producer);
         presented?;
         Ok(self.front.pushes != pushes || self.back.pops != pops)
     }
 
     /// Hands the item in `hand` directly to the presenter, without the ring.
     fn present_hand<P: Presenter>(&mut self, presenter: &mut P) -> Result<(), Failed>
-        requires { ring_of self.old ≡ [] }
-        ensures hands { (begun : P) (items : List ShownValue) → P.handed begun presenter.old items → P.handed begun presenter.new (items ++ hand_of self.old.front) }
-        ensures failed { OnErr result (length (hand_of self.old.front) ≡ 1) }
-        ensures counted { IsCounted (P.faults presenter.old) (P.faults presenter.new) result }
-        ensures emptied { hand_of self.new.front ≡ [] }
-        ensures kept { KeepsRing self.old self.new }
+        ensures { PresentsHand P.handed P.faults presenter.old presenter.new self.old self.new result }
     {
         match self.front.hand.take() {
             Some(shown) => {
@@ -143,9 +132,8 @@ impl Pipe {
         }
     }
 
-    /// Both sides take their turns. Suppose that nothing was pushed or popped, and that `hand` holds an item. Then the
-    /// ring is now empty, but at the start of the turns its producer knew of no free slot. The item is then presented
-    /// directly, without the ring.
+    /// Both sides take their turns. If nothing was pushed or popped and an item is in `hand`, the ring is empty and its
+    /// producer knew of no free slot. The item is then presented directly, without the ring.
     fn advance<T: Threads + Sync, R: Receiver, P: Presenter, G: Gate>(
         &mut self,
         rt: &T,
@@ -153,14 +141,8 @@ impl Pipe {
         presenter: &mut P,
         gate: &G,
     ) -> Result<(), Failed>
-        requires live { ended_with self.old ≡ None → R.ended receiver.old ≡ None }
-        requires room { given_to self.old + R.left receiver.old ≤ 2 ^ 62 }
-        ensures moved { IsRound R.gave R.left P.handed receiver.old receiver.new presenter.old presenter.new self.old self.new }
-        ensures ends { EndsWith R.ended receiver.old receiver.new self.old self.new }
-        ensures counted { IsCounted (P.faults presenter.old) (P.faults presenter.new) result }
-        ensures failed { OnErr result (work (R.left receiver.new) self.new < work (R.left receiver.old) self.old) }
-        ensures goes_on { (IsDrained self.new → ⊥) → work (R.left receiver.new) self.new < work (R.left receiver.old) self.old }
-        ensures capacity { capacity_of self.new ≡ capacity_of self.old }
+        requires { CanFeed R.left R.ended receiver.old self.old.front }
+        ensures { Advances R.gave R.left R.ended P.handed P.faults receiver.old receiver.new presenter.old presenter.new self.old self.new result }
     {
         if self.take_turns(rt, receiver, presenter, gate)? {
             return Ok(());

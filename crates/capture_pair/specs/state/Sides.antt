@@ -1,6 +1,6 @@
 -- Only private functions and proofs use these definitions. Two listeners, of records or of bytes, and
 -- the matching of what they show.
-use Rattle.std.specs.Prelude.{◌≡◌, ℕ, ◌+◌, ◌≤◌, ◌^◌, Bool, true, false, if◌then◌else◌, List, length, Option, None, Some}
+use Rattle.std.specs.Prelude.{◌≡◌, ◌⊎◌, ℕ, ◌+◌, ◌<◌, ◌≤◌, ◌^◌, Bool, true, false, if◌then◌else◌, List, length, Option, None, Some, IsSome}
 use Rattle.sample_schedule.specs.declared.shown.Shown.{Shown}
 use Rattle.sample_schedule.specs.declared.shown.Shown.TheVariants.{Present, Flag}
 use Rattle.listener.specs.Feeding.{Feeding, StandsFor as IsFed, out as out_fed}
@@ -9,7 +9,7 @@ use Rattle.listener.specs.Listening.{ListenState, StandsFor as IsGiven, is_close
 use Rattle.listener_pair.specs.declared.difference.Which.{Which}
 use Rattle.listener_pair.specs.declared.difference.Which.TheVariants.{A, B}
 use Rattle.listener_pair.specs.Merged.{IsInOrder}
-use Rattle.listener_pair.specs.Matching.{MatchingState, ended_by, given_to, wanted}
+use Rattle.listener_pair.specs.Matching.{MatchingState, ended_by, given_to, nexts_left, wanted}
 use Rattle.capture_pair.specs.Pairing.{Matches}
 pub use Rattle.capture_pair.specs.Sources.{Kept, OfBytes, OfRecords, Taken}
 
@@ -136,3 +136,24 @@ pub record Fills (which : Which) (ended : Bool) (Quiet : Type 0) (old new : Matc
   pub quiet : wanted new ≡ Some which → Quiet
   pub other : IsOtherSame which old new
   pub over : (ended_of which old ≡ true → ended ≡ true) → ended_of which new ≡ true → ended ≡ true
+
+-- While two listeners were asked for items, what does not change in a listener stayed as it was, and the matching of
+-- what they show is settled.
+pub record StaysSettled (was_a now_a was_b now_b : Kept) (QuietA QuietB : Type 0) (m : MatchingState) : Type 0 where
+  pub settled : IsSettled now_a.ended now_b.ended QuietA QuietB m
+  pub kept_a : now_a ≡ was_a
+  pub kept_b : now_b ≡ was_b
+
+-- Both sides were filled. `work` is the number of items that the listeners could still show before, and `work'` the
+-- number now. If no side was wanted, nothing changed. If a side was wanted and none is wanted now, less is left to do.
+pub record Shrinks (work work' : ℕ) (old new : MatchingState) : Type 0 where
+  pub same : wanted old ≡ None → new ≡ old
+  pub less : IsSome (wanted old) → wanted new ≡ None → work' + open_sides new < work + open_sides old
+  pub nexts : work' + nexts_left new ≤ work + nexts_left old
+
+-- Side `which` was filled. `work` is the number of items that its listener could still show before, and `work'` the
+-- number now. If the side was wanted, it still is, or less is left to do.
+pub record ShrinksOn (which : Which) (work work' : ℕ) (old new : MatchingState) : Type 0 where
+  pub less : work' + open_sides new ≤ work + open_sides old
+  pub fewer : wanted old ≡ Some which → (wanted new ≡ Some which) ⊎ (work' + open_sides new < work + open_sides old)
+  pub nexts : work' + nexts_left new ≤ work + nexts_left old

@@ -40,6 +40,13 @@ pub record Gives (ds : List Delivery) (d : Delivery) (new : Gathered) : Type 0 w
   pub has : HasUnits (ds ++ d ∷ []) new
   pub gives : map item_entry (left new) ≡ map made_entry (given_by ds d)
 
+-- The delivery `d` was taken, and `first` is the first item that it yields, if it yields any; the others are queued.
+pub record GivesFirst (d : Delivery) (old new : Gathered) (first : Option Item) : Type 0 where
+  pub stands : (ds : List Delivery) → HasUnits ds old → HasUnits (ds ++ d ∷ []) new
+  pub gives : (ds : List Delivery) → HasUnits ds old
+      → map item_entry (option_to_list first ++ left new) ≡ map made_entry (given_by ds d)
+  pub item : IfSome first IsItem
+
 -- The own item of an H.264 packet: the unit, with the bytes `unit`, if the packet completes one; none if the packet
 -- waits for the rest of its unit; and a flagged item if the packet is lost.
 abbrev pub own_item : Delivery → ℤ → List ℕ → Piece → Option Item

@@ -1,7 +1,10 @@
-use Rattle.std.proofs.Common.{◌≡◌, ◌∙◌, true, ap, sym, arith}
-use Rattle.listener_pair.specs.Matching.{nexts_left, wanted}
-use Rattle.capture_pair.specs.state.Sides.{handed, is_passed}
-use Rattle.capture_pair.proofs.Handing.{going-filled, going-next, handed-nexts, handed-passed}
+use Rattle.std.proofs.Common.{◌≡◌, ◌∙◌, ◌⊎◌, inl, inr, ℕ, ◌+◌, ◌<◌, ◌≤◌, Bool, Option, Some, true, ap, sym, subst, arith, length}
+use Rattle.std.specs.Option.{option_to_list}
+use Rattle.sample_schedule.specs.declared.shown.Shown.{Shown}
+use Rattle.listener_pair.specs.declared.difference.Which.{Which}
+use Rattle.listener_pair.specs.Matching.{MatchingState, wanted}
+use Rattle.capture_pair.specs.state.Sides.{ShrinksOn, handed, is_passed, open_sides}
+use Rattle.capture_pair.proofs.Handing.{going-filled, going-next, handed-fewer, handed-less, handed-nexts, handed-passed}
 use Rattle.capture_pair.proofs.sides.fill.Goals as goal
 
 pub returns-then-not-hand_on-clause-filled : goal.returns-then-not-hand_on-clause-filled
@@ -10,17 +13,31 @@ returns-then-not-hand_on-clause-filled g c taken list other n k given s hl ho m 
     c.loop-which.invariant.wants (sym c.hand_on.ensures.again ∙ c.if-not-hand_on.true) (λ i. c.next_out-next.ensures.given taken list i) (λ i. c.next_out-next.ensures.shows taken list i) (c.hand_on.ensures.handed ∙ ap (handed c.args.which c.next_out-next.result c.has_ended-ended.result) c.take_spent-spent.ensures)
     (c.loop-which.invariant.going taken list other n k given s hl ho m)
 
-pub returns-then-not-hand_on-clause-nexts : goal.returns-then-not-hand_on-clause-nexts
-returns-then-not-hand_on-clause-nexts g c =
-    let m = c.loop-which.matching in
-    let shown = c.next_out-next.result in
+-- after the next item is given to the matching, no more is left to do
+shrinks-on : (which : Which) (next : Option Shown) (ended : Bool) (m : MatchingState) (most was is : ℕ) → wanted m ≡ Some which → was ≤ most → is + length (option_to_list next) ≤ was
+    → ShrinksOn which most is m (handed which next ended m)
+shrinks-on which next ended m most was is wants first less = record {
+  less = let h = handed-less which next ended m was is wants less in omega arith;
+  fewer = λ w. wider (handed-fewer which next ended m was is wants less);
+  nexts = let h = handed-nexts which next ended m was is less in omega arith;
+}
+  where
+    wider : (wanted (handed which next ended m) ≡ Some which) ⊎ (is + open_sides (handed which next ended m) < was + open_sides m)
+        → (wanted (handed which next ended m) ≡ Some which) ⊎ (is + open_sides (handed which next ended m) < most + open_sides m)
+    wider (inl w) = inl w
+    wider (inr lt) = inr (omega arith)
+
+pub returns-then-not-hand_on-clause-shrinks : goal.returns-then-not-hand_on-clause-shrinks
+returns-then-not-hand_on-clause-shrinks g c =
+    let i = c.loop-which.invariant in
+    let next = c.next_out-next.result in
     let ended = c.has_ended-ended.result in
-    let was = g.S.Source.work c.loop-which.source in
-    let next = handed-nexts c.args.which shown ended m was (g.S.Source.work c.next_out-next.new.self) c.next_out-next.ensures.less in
-    let then : nexts_left c.hand_on.new.matching ≡ nexts_left (handed c.args.which shown ended m) = ap nexts_left (c.hand_on.ensures.handed ∙ ap (handed c.args.which c.next_out-next.result c.has_ended-ended.result) c.take_spent-spent.ensures) in
-    let first : nexts_left m ≡ nexts_left c.args.matching.now = ap nexts_left c.loop-which.invariant.matching in
-    let less = c.loop-which.invariant.less in
-    omega arith
+    let most = g.S.Source.work c.args.source.now in
+    let is = g.S.Source.work c.next_out-next.new.self in
+    let to = c.hand_on.ensures.handed ∙ ap (handed c.args.which next ended) c.take_spent-spent.ensures in
+    let on = shrinks-on c.args.which next ended c.loop-which.matching most (g.S.Source.work c.loop-which.source) is i.wants i.less c.next_out-next.ensures.less in
+    subst (λ (m : MatchingState). ShrinksOn c.args.which most is m c.hand_on.new.matching) i.matching
+    (subst (λ (m : MatchingState). ShrinksOn c.args.which most is c.loop-which.matching m) (sym to) on)
 
 pub loop-which-preserved : goal.loop-which-preserved
 loop-which-preserved g c =

@@ -33,4 +33,4 @@ pub returns-clause-other : goal.returns-clause-other
 returns-clause-other c =
     let pair : FedPair = record { a = c.self.inside.a.listener; b = c.self.inside.b.listener; matching = c.self.inside.matching } in
     subst (λ (p : FedPair). KeepsOther c.args.which p (record { a = c.fill_both.new.a.listener; b = c.fill_both.new.b.listener; matching = c.fill_both.new.matching })) c.self.view_is
-    (other-fed c.args.which c.args.piece.now c.feed_on-answer.result pair c.feed_on-answer.new.a.listener c.feed_on-answer.new.b.listener c.fill_both.new.a.listener c.fill_both.new.b.listener c.fill_both.new.matching c.feed_on-answer.ensures c.fill_both.ensures.kept_a c.fill_both.ensures.kept_b)
+    (other-fed c.args.which c.args.piece.now c.feed_on-answer.result pair c.feed_on-answer.new.a.listener c.feed_on-answer.new.b.listener c.fill_both.new.a.listener c.fill_both.new.b.listener c.fill_both.new.matching c.feed_on-answer.ensures c.fill_both.ensures.stays.kept_a c.fill_both.ensures.stays.kept_b)

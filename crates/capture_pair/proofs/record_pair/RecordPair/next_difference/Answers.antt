@@ -29,4 +29,4 @@ returns-clause-less c =
     subst (λ (p : PairState). most_left new + length (option_to_list c.next_difference.result) ≤ most_left p) c.self.view_is c.next_difference.ensures.less
 
 pub returns-clause-ends : goal.returns-clause-ends
-returns-clause-ends c = record { a = c.next_difference.ensures.settled.over_a; b = c.next_difference.ensures.settled.over_b }
+returns-clause-ends c = record { a = c.next_difference.ensures.stays.settled.over_a; b = c.next_difference.ensures.stays.settled.over_b }

@@ -12,7 +12,7 @@ returns-clause-stands_a c is records others given s =
     let w : wanted pair.matching ≡ Some c.args.which = ap (λ (p : PairState). wanted p.matching) c.self.view_is ∙ c.requires.wanted in
     let few = subst (λ (p : PairState). (listener_of c.args.which p).counts.frames < 2 ^ 61) (sym c.self.view_is) c.requires.few in
     took-a c.args.which (shown c.args.held.now) records others given pair c.take.new.a.listener c.take.new.b.listener c.fill_both.new.a.listener c.fill_both.new.b.listener c.fill_both.new.matching is w
-    (open-side c.args.which (IsIdleListener pair.a) (IsIdleListener pair.b) pair c.self.invariant.0 w) c.in_ok-take.ensures.took few c.self.invariant.2 c.fill_both.ensures.pairs (subst (StandsFor records others given) (sym c.self.view_is) s)
+    (open-side c.args.which (IsIdleListener pair.a) (IsIdleListener pair.b) pair c.self.invariant.0 w) c.in_ok-take.ensures few c.self.invariant.2 c.fill_both.ensures.pairs (subst (StandsFor records others given) (sym c.self.view_is) s)
 
 pub returns-clause-stands_b : goal.returns-clause-stands_b
 returns-clause-stands_b c is records others given s =
@@ -20,4 +20,4 @@ returns-clause-stands_b c is records others given s =
     let w : wanted pair.matching ≡ Some c.args.which = ap (λ (p : PairState). wanted p.matching) c.self.view_is ∙ c.requires.wanted in
     let few = subst (λ (p : PairState). (listener_of c.args.which p).counts.frames < 2 ^ 61) (sym c.self.view_is) c.requires.few in
     took-b c.args.which (shown c.args.held.now) records others given pair c.take.new.a.listener c.take.new.b.listener c.fill_both.new.a.listener c.fill_both.new.b.listener c.fill_both.new.matching is w
-    (open-side c.args.which (IsIdleListener pair.a) (IsIdleListener pair.b) pair c.self.invariant.0 w) c.in_ok-take.ensures.took few c.self.invariant.1 c.fill_both.ensures.pairs (subst (StandsFor records others given) (sym c.self.view_is) s)
+    (open-side c.args.which (IsIdleListener pair.a) (IsIdleListener pair.b) pair c.self.invariant.0 w) c.in_ok-take.ensures few c.self.invariant.1 c.fill_both.ensures.pairs (subst (StandsFor records others given) (sym c.self.view_is) s)

@@ -28,14 +28,14 @@ invariant_of-self c =
     let counted = sound.counted (holds_accepted _ _ _ _ next.whole) in
     let bytes = sound.bytes ++ take c.in-Some.size c.args.piece.now in
     let quiet = not_some c.self.inside.next (sym c.is_some.ensures ∙ c.if-is_some.false) in
-    let heard = c.in-Ok.ensures.heard sound.bytes sound.given (heard_here sound.bytes sound.given _ sound.stands c.if-self.false quiet) in
+    let heard = c.in-Ok.ensures.hears.heard sound.bytes sound.given (heard_here sound.bytes sound.given _ sound.stands c.if-self.false quiet) in
     let long : length (take c.in-Some.size c.args.piece.now) ≡ c.in-Some.size = length-take-le c.in-Some.size c.args.piece.now c.in-Some.ensures.within in
     record {
       bytes = bytes;
       given = sound.given;
       stands = stands_fed bytes sound.given c.take_lent.new.reader c.take_lent.new.listener c.put_next.new.self c.put_next.new.next c.self.inside.out_of_memory heard c.in-Ok.ensures.passed.free
           c.put_next.ensures.given c.put_next.ensures.stands c.put_next.ensures.keeps.plan c.put_next.ensures.keeps.closed;
-      counted = λ unrefused. omega (arith, counted, some, long, c.put_next.ensures.keeps.frames, c.in-Ok.ensures.frames, c.in-Ok.ensures.passed.counted);
+      counted = λ unrefused. omega (arith, counted, some, long, c.put_next.ensures.keeps.frames, c.in-Ok.ensures.hears.frames, c.in-Ok.ensures.passed.counted);
       idle = λ none. if_none c.put_next.new.next c.put_next.ensures.idle none;
       spent = λ memory. absurd (let no = c.if-self.false in cc);
     }
@@ -51,7 +51,7 @@ pub returns-in-Ok-clause-stands : goal.returns-in-Ok-clause-stands
 returns-in-Ok-clause-stands c bytes given stands =
     let st = subst (StandsFor bytes given) (sym c.self.view_is) stands in
     let quiet = not_some c.self.inside.next (sym c.is_some.ensures ∙ c.if-is_some.false) in
-    let heard = c.in-Ok.ensures.heard bytes given (heard_here bytes given _ st c.if-self.false quiet) in
+    let heard = c.in-Ok.ensures.hears.heard bytes given (heard_here bytes given _ st c.if-self.false quiet) in
     stands_fed (bytes ++ take c.in-Some.size c.args.piece.now) given c.take_lent.new.reader c.take_lent.new.listener c.put_next.new.self c.put_next.new.next c.self.inside.out_of_memory heard c.in-Ok.ensures.passed.free
     c.put_next.ensures.given c.put_next.ensures.stands c.put_next.ensures.keeps.plan c.put_next.ensures.keeps.closed
 
@@ -83,7 +83,7 @@ pub returns-in-Ok-take_held-clause-stands : goal.returns-in-Ok-take_held-clause-
 returns-in-Ok-take_held-clause-stands c bytes given stands =
     let st = subst (StandsFor bytes given) (sym c.self.view_is) stands in
     let quiet = not_some c.self.inside.next (sym c.is_some.ensures ∙ c.if-is_some.false) in
-    let heard = c.in-Ok-take_held.ensures.heard (bytes ++ take c.in-Ok-feed.taken c.args.piece.now) given (heard_on bytes (take c.in-Ok-feed.taken c.args.piece.now) given _ c.feed.new.self st c.if-self.false quiet c.in-Ok-feed.ensures.read) in
+    let heard = c.in-Ok-take_held.ensures.hears.heard (bytes ++ take c.in-Ok-feed.taken c.args.piece.now) given (heard_on bytes (take c.in-Ok-feed.taken c.args.piece.now) given _ c.feed.new.self st c.if-self.false quiet c.in-Ok-feed.ensures.read) in
     stands_fed (bytes ++ take c.in-Ok-feed.taken c.args.piece.now) given c.take_held.new.reader c.take_held.new.listener c.put_next-in-Ok-take_held.new.self c.put_next-in-Ok-take_held.new.next c.self.inside.out_of_memory heard c.in-Ok-take_held.ensures.free
     c.put_next-in-Ok-take_held.ensures.given c.put_next-in-Ok-take_held.ensures.stands c.put_next-in-Ok-take_held.ensures.keeps.plan c.put_next-in-Ok-take_held.ensures.keeps.closed
 
@@ -92,7 +92,7 @@ invariant_of-self-in-Ok-take_held c =
     let sound = c.self.invariant in
     let bytes = sound.bytes ++ take c.in-Ok-feed.taken c.args.piece.now in
     let quiet = not_some c.self.inside.next (sym c.is_some.ensures ∙ c.if-is_some.false) in
-    let heard = c.in-Ok-take_held.ensures.heard bytes sound.given (heard_on sound.bytes (take c.in-Ok-feed.taken c.args.piece.now) sound.given _ c.feed.new.self sound.stands c.if-self.false quiet c.in-Ok-feed.ensures.read) in
+    let heard = c.in-Ok-take_held.ensures.hears.heard bytes sound.given (heard_on sound.bytes (take c.in-Ok-feed.taken c.args.piece.now) sound.given _ c.feed.new.self sound.stands c.if-self.false quiet c.in-Ok-feed.ensures.read) in
     let few = held_few c.self.inside.reader c.feed.new.self sound.bytes c.args.piece.now c.in-Ok-feed.taken (sound.stands.read c.if-self.false) c.in-Ok-feed.ensures.read in
     let counted = sound.counted (accepted c.self.inside.reader.refusal c.in-Ok-feed.taken c.in-Ok-feed.ensures.lasting) in
     record {
@@ -100,7 +100,7 @@ invariant_of-self-in-Ok-take_held c =
       given = sound.given;
       stands = stands_fed bytes sound.given c.take_held.new.reader c.take_held.new.listener c.put_next-in-Ok-take_held.new.self c.put_next-in-Ok-take_held.new.next c.self.inside.out_of_memory heard c.in-Ok-take_held.ensures.free
           c.put_next-in-Ok-take_held.ensures.given c.put_next-in-Ok-take_held.ensures.stands c.put_next-in-Ok-take_held.ensures.keeps.plan c.put_next-in-Ok-take_held.ensures.keeps.closed;
-      counted = λ unrefused. omega (arith, counted, few, c.put_next-in-Ok-take_held.ensures.keeps.frames, c.in-Ok-take_held.ensures.frames, c.in-Ok-take_held.ensures.read.0, c.in-Ok-feed.ensures.taken);
+      counted = λ unrefused. omega (arith, counted, few, c.put_next-in-Ok-take_held.ensures.keeps.frames, c.in-Ok-take_held.ensures.hears.frames, c.in-Ok-take_held.ensures.read.0, c.in-Ok-feed.ensures.taken);
       idle = λ none. if_none c.put_next-in-Ok-take_held.new.next c.put_next-in-Ok-take_held.ensures.idle none;
       spent = λ memory. absurd (let no = c.if-self.false in cc);
     }

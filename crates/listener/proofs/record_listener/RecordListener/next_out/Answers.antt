@@ -7,9 +7,14 @@ use Rattle.listener.specs.Listening.{ListenState, StandsFor, out, work}
 use Rattle.listener.proofs.Listened.{given_out, nothing_out, shown_few, shown_frames, stands_next, taken_few, work_less}
 use Rattle.listener.proofs.record_listener.RecordListener.next_out.Goals as goal
 
-pub next_shown-next-requires-clause-few : goal.next_shown-next-requires-clause-few
-next_shown-next-requires-clause-few c =
-    let sound = c.self.invariant.0 in omega (arith, taken_few sound.records sound.given _ sound.stands, sound.few)
+pub next_shown-next-requires : goal.next_shown-next-requires
+next_shown-next-requires c =
+    let sound = c.self.invariant.0 in
+    record {
+      closed = c.self.invariant.1;
+      over = sound.stands.ends;
+      few = omega (arith, taken_few sound.records sound.given _ sound.stands, sound.few);
+    }
 
 pub returns-then-self-clause-given : goal.returns-then-self-clause-given
 returns-then-self-clause-given c records given stands =
@@ -36,11 +41,11 @@ invariant_of-self c =
         records = sound.records;
         given = sound.given + length (option_to_list c.next_shown-next.result);
         stands = stands_next sound.records sound.given _ _ c.next_shown-next.result c.in-Some.shown is sound.stands (given_out sound.records sound.given _ _ sound.stands (c.next_shown-next.ensures.given _ sound.given sound.stands.judges))
-            (record { plan = refl; closed = refl; schedule = c.next_shown-next.ensures.plan; units = c.next_shown-next.ensures.units; ends = c.next_shown-next.ensures.over })
+            (record { plan = refl; closed = refl; schedule = c.next_shown-next.ensures.plan; units = c.next_shown-next.ensures.units; ends = c.next_shown-next.ensures.ready.over })
             (c.next_shown-next.ensures.judges _ sound.given sound.stands.judges) c.with_shown-self-inside.ensures;
         few = omega (arith, sound.few, shown_frames c.self.inside.counts c.in-Some.shown, ap (λ (n : Counts). n.frames) c.with_shown-self-inside.ensures);
       },
-      c.next_shown-next.ensures.closed,
+      c.next_shown-next.ensures.ready.closed,
       λ rests. absurd (let both = sym rests ∙ awake in cc),
     )
 
@@ -54,7 +59,7 @@ returns-in-Some-clause-stands c records given stands =
     let is : c.next_shown-next.result ≡ Some c.in-Some.shown = cc in
     let st = subst (StandsFor records given) (sym c.self.view_is) stands in
     stands_next records given _ _ c.next_shown-next.result c.in-Some.shown is st (given_out records given _ _ st (c.next_shown-next.ensures.given _ given st.judges))
-    (record { plan = refl; closed = refl; schedule = c.next_shown-next.ensures.plan; units = c.next_shown-next.ensures.units; ends = c.next_shown-next.ensures.over })
+    (record { plan = refl; closed = refl; schedule = c.next_shown-next.ensures.plan; units = c.next_shown-next.ensures.units; ends = c.next_shown-next.ensures.ready.over })
     (c.next_shown-next.ensures.judges _ given st.judges) c.with_shown-self-inside.ensures
 
 pub returns-in-Some-clause-less : goal.returns-in-Some-clause-less

@@ -1,4 +1,4 @@
-use Rattle.std.proofs.Common.{◌+◌, ◌++◌, ◌∷◌, [], refl, sym, subst, ap, ◌∙◌, arith, map}
+use Rattle.std.proofs.Common.{◌+◌, ◌++◌, ◌∷◌, [], refl, rules, sym, subst, ap, ◌∙◌, arith, map}
 use Rattle.std.specs.Prelude.{◌==◌, not}
 use Rattle.avtp_header.specs.Numbers.{crf_subtype}
 use Rattle.pcap_frames.specs.Reading.{shown}
@@ -23,10 +23,15 @@ pub with_record-self-inside-requires-in-Some-clause-within : goal.with_record-se
 with_record-self-inside-requires-in-Some-clause-within c =
     let sound = c.self.invariant.0 in packets_few sound.records sound.given _ sound.stands
 
-pub take_delivery-requires-clause-taken : goal.take_delivery-requires-clause-taken
-take_delivery-requires-clause-taken c =
+pub take_delivery-requires-clause-ready : goal.take_delivery-requires-clause-ready
+take_delivery-requires-clause-ready c =
     let sound = c.self.invariant.0 in
-    omega (arith, taken_few sound.records sound.given _ sound.stands, c.requires.few, ap (λ (l : ListenState). l.counts.frames) c.self.view_is)
+    record {
+      opened = judge_open sound.records sound.given _ sound.stands (ap is_closed c.self.view_is ∙ c.requires.open);
+      idle = search rules;
+      none = search rules;
+      few = omega (arith, taken_few sound.records sound.given _ sound.stands, c.requires.few, ap (λ (l : ListenState). l.counts.frames) c.self.view_is);
+    }
 
 pub take_delivery-requires-clause-arrival : goal.take_delivery-requires-clause-arrival
 take_delivery-requires-clause-arrival c =
@@ -69,7 +74,7 @@ returns-in_ok-take_delivery-in-Some-clause-stands c records given stands =
     let ds = deliveries_of plan records in
     let es = entries_so_far_in plan records in
     let ok = c.in_ok-take_delivery-in-Some.ensures in
-    stands_with records read given _ _ st opened here.0 refl opened ok.plan ok.open
+    stands_with records read given _ _ st opened here.0 refl opened ok.plan ok.opened
     (subst (λ (d : Delivery). HasUnits (ds ++ d ∷ []) c.take_delivery.new.units) here.1 (ok.units ds (st.units opened)))
     (subst (λ (d : Delivery). Judges (es ++ map made_entry (given_by ds d)) given c.take_delivery.new.judge c.take_delivery.new.units) here.1 (ok.judges ds es given (st.units opened) (judges_open records given _ st opened)))
     (c.with_record-self-inside-in-Some.ensures ∙ ap (λ (d : Delivery). with_record c.self.inside.counts (not (d.subtype == crf_subtype))) here.1)
@@ -91,12 +96,12 @@ invariant_of-self-in-Some c =
       record {
         records = records ++ read ∷ [];
         given = given;
-        stands = stands_with records read given _ _ st opened here.0 refl opened ok.plan ok.open
+        stands = stands_with records read given _ _ st opened here.0 refl opened ok.plan ok.opened
             (subst (λ (d : Delivery). HasUnits (ds ++ d ∷ []) c.take_delivery.new.units) here.1 (ok.units ds (st.units opened)))
             (subst (λ (d : Delivery). Judges (es ++ map made_entry (given_by ds d)) given c.take_delivery.new.judge c.take_delivery.new.units) here.1 (ok.judges ds es given (st.units opened) (judges_open records given _ st opened)))
             (c.with_record-self-inside-in-Some.ensures ∙ ap (λ (d : Delivery). with_record c.self.inside.counts (not (d.subtype == crf_subtype))) here.1);
         few = omega (arith, c.requires.few, ap (λ (l : ListenState). l.counts.frames) c.self.view_is, ap (λ (n : Counts). n.frames) c.with_record-self-inside-in-Some.ensures);
       },
-      c.self.invariant.1 ∙ (judge_open records given _ st opened ∙ sym ok.open),
+      c.self.invariant.1 ∙ (judge_open records given _ st opened ∙ sym ok.opened),
       λ rests. absurd cc,
     )

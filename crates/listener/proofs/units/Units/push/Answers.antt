@@ -39,5 +39,5 @@ invariant_of-self c = (
   omega arith,
 )
 
-pub returns-clause-pushed : goal.returns-clause-pushed
-returns-clause-pushed c = pushes c c.args.self.now (ap (λ (u : Gathered). u.assembly) (sym c.self.view_is))
+pub returns : goal.returns
+returns c = pushes c c.args.self.now (ap (λ (u : Gathered). u.assembly) (sym c.self.view_is))

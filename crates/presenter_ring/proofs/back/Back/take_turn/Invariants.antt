@@ -1,7 +1,7 @@
 use Rattle.std.proofs.Common.{◌≡◌, ◌+◌, length}
 use Rattle.rtrb.specs.Ring.{received, known_items}
 use Rattle.presenter_ring.specs.state.Backs.{HasPresented}
-use Rattle.presenter_ring.proofs.back.Back.present_all.Given as goal
+use Rattle.presenter_ring.proofs.back.Back.take_turn.Given as goal
 
 abbrev pub invariant-loop : goal.invariant-loop
 invariant-loop g l = record {
