@@ -2,8 +2,8 @@
 use Rattle.std.proofs.Common.{◌≡◌, ℕ, ◌+◌, ◌≤◌, Bool, true, false, List, [], ◌∷◌, ◌++◌, length, arith, refl, sym, ap, ◌∙◌, length-append}
 use Rattle.std.specs.Prelude.{◌&&◌, not, if◌then◌else◌}
 use Rattle.cvf_format.specs.Stretches.{Fragment, Event, packet, begins, completes, whole_unit}
-use Rattle.cvf_format.specs.Assembly.{Assembly, StandsFor, longest_body, shown_unit}
-use Rattle.cvf_format.specs.state.Assembly.{goes_on_here, gave_up, has_room, size_with, with_first, with_next}
+use Rattle.cvf_format.specs.Assembly.{Assembly, StandsFor, longest_body}
+use Rattle.cvf_format.specs.state.Assembly.{goes_on_here, has_room, size_with}
 use Rattle.cvf_format.proofs.AssemblyLemmas.{pushed_apart, pushed_first, pushed_long, pushed_next}
 
 first_long : (b : Bool) (nal : ℕ) (body : List ℕ) → (if not b then 0 else 1 + length body) ≡ length (if b then nal ∷ body else [])

@@ -4,7 +4,8 @@ ghost use Rattle.std.specs.Prelude.{◌≡◌, ◌+◌, ◌-◌, ◌<◌, ◌≤
 ghost use Rattle.std.specs.List.{last_or};
 ghost use Rattle.std.specs.Option.{option_map};
 ghost use Rattle.memchr.specs.Find.{IsFirst, OccursAt};
-ghost use Rattle.cvf_format.specs.AnnexB.{AreUnits, end_behind, is_end, is_other_byte, nal_units, places, start_code, units_from};
+ghost use Rattle.cvf_format.specs.AnnexB.{AreUnits, is_end, is_other_byte, nal_units, places, start_code, units_from};
+ghost use Rattle.cvf_format.specs.state.Ranges.{EndsUnit, IsNonempty, IsRange};
 
 use avtp_base::NoMemory;
 use memchr::memmem;
@@ -37,9 +38,7 @@ fn ends_at(bytes: &[u8], zeros: usize) -> bool
 /// the end of the bytes.
 fn end_of_unit(bytes: &[u8], from: usize) -> usize
     requires { from ≤ length bytes.now }
-    ensures value { result ≡ end_behind bytes.now from }
-    ensures behind { from ≤ result }
-    ensures within { result ≤ length bytes.now }
+    ensures { EndsUnit bytes.now from result }
 {
     let mut at = from;
     while let Some(zeros) = find_from(bytes, &[0, 0], at) {
@@ -53,11 +52,9 @@ fn end_of_unit(bytes: &[u8], from: usize) -> usize
 
 /// The range from `from` to before `end` without the zero bytes at its end; `None` if all its bytes are 0.
 fn without_zeros(bytes: &[u8], from: usize, end: usize) -> Option<(usize, usize)>
-    requires order { from ≤ end }
-    requires inside { end ≤ length bytes.now }
+    requires { IsRange bytes.now from end }
     ensures value { result ≡ option_map (λ last. (from, last + 1)) (last_or None (places (is_other_byte bytes.now) from end)) }
-    ensures some { IfSome result (λ range. from < range.1) }
-    ensures within { IfSome result (λ range. range.1 ≤ end) }
+    ensures range { IfSome result (IsNonempty from end) }
 {
     for last in (from..end).rev() {
         if bytes[last] != 0 {

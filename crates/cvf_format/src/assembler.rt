@@ -1,6 +1,6 @@
 //! Puts NAL units together from packets (RFC 6184, 5.8).
 
-ghost use Rattle.std.specs.Prelude.{◌≡◌, ◌+◌, ◌%◌, ◌≤◌, ◌<◌, ◌++◌, ◌∷◌, [], length, slice_get, List, IfOk, IsTrue, IsSome, if◌then◌else◌};
+ghost use Rattle.std.specs.Prelude.{◌≡◌, ◌+◌, ◌%◌, ◌≤◌, ◌<◌, ◌++◌, ◌∷◌, [], length, slice_get, List, IfOk, IsTrue, IsSome, true, if◌then◌else◌};
 ghost use Rattle.cvf_format.specs.Stretches.{Event, cut as cut_event, packet, given_up, lost_marks, piece as piece_after, reason, sequence_numbers, whole_unit, completes, goes_on, begins};
 ghost use Rattle.cvf_format.specs.Assembly.{StandsFor, fragment_of, longest_body, shown_unit};
 ghost use Rattle.cvf_format.specs.state.Assembly.{IsPushed, agree, broken, gave_up, goes_on_here, has_room, lost_for, or_first, settled, size_with, with_first, with_next};
@@ -258,9 +258,7 @@ impl Assembler {
     /// Whether the unit stays within the limits after one more fragment.
     #[tactic(auto, unfolding(crate::specs::state::Assembly::has_room))]
     fn has_room_for(&self, body: &[u8]) -> bool
-        ensures room { result ≡ has_room self.now body.now }
-        ensures bytes { IsTrue result → length self.now.bytes + length body.now ≤ LONGEST_UNIT }
-        ensures fragments { IsTrue result → length self.now.held < MOST_FRAGMENTS }
+        ensures { result ≡ has_room self.now body.now }
     {
         body.len() <= LONGEST_UNIT - self.bytes.len() && self.held.len() < MOST_FRAGMENTS
     }
@@ -329,9 +327,9 @@ impl Assembler {
     }
 
     /// Continues the unit, which must have room for the packet.
+    #[tactic(auto, unfolding(crate::specs::state::Assembly::has_room))]
     fn go_on(&mut self, mark: Mark, instant: Option<i64>, view: &CvfView<'_>) -> Pushed
-        requires bytes { length self.old.bytes + length view.now.body.now ≤ LONGEST_UNIT }
-        requires fragments { length self.old.held < MOST_FRAGMENTS }
+        requires { has_room self.old view.now.body.now ≡ true }
         ensures left { self.new ≡ with_next self.old (fragment_of mark instant view.now) }
         ensures pushed { result ≡ record { lost = 0; why = broken; piece = settled view.now.part } }
     {

@@ -2,3 +2,4 @@
 pub mod Counting
 pub mod Hearing
 pub mod Showing
+pub mod Delivered

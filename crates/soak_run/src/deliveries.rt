@@ -3,7 +3,8 @@
 ghost use Rattle.std.specs.Prelude.{◌≡◌, ◌+◌, ◌≤◌, ◌<◌, ◌^◌, ◌++◌, ℕ, pos, suc, IfOk, OnOk};
 ghost use Rattle.soak_run.specs.Noise.{state_after};
 ghost use Rattle.talk_plan.specs.Timing.{arrival_of};
-ghost use Rattle.soak_run.specs.Soak.{all_copies, copies as copies_of_packet, copies_by, delay_by, deliveries_of, draws_before, soak_plan};
+ghost use Rattle.soak_run.specs.Soak.{all_copies, copies_by, delay_by, deliveries_of, draws_before, soak_plan};
+ghost use Rattle.soak_run.specs.state.Delivered.{HasDelivered};
 
 use crate::noise::Noise;
 use aaf_format::AafFormat;
@@ -33,8 +34,7 @@ const DELAY_STEP: u32 = 40_000;
 
 /// The number of copies of a packet that are delivered, if `draw` is drawn for the packet.
 fn copies_drawn(draw: u32) -> u32
-    ensures exact { result ≡ copies_by draw }
-    ensures few { result ≤ 2 }
+    ensures { result ≡ copies_by draw }
 {
     match draw % 16 {
         0 => 0,
@@ -43,28 +43,19 @@ fn copies_drawn(draw: u32) -> u32
     }
 }
 
-/// The delay of a copy, in nanoseconds, if `draw` is drawn for the copy.
-fn delay_drawn(draw: u32) -> u32
-    ensures exact { result ≡ delay_by draw }
-    ensures bound { result < 2 ^ 22 }
-{
-    draw % 64 * DELAY_STEP
-}
-
 /// If `draw` is drawn for a copy of packet `number`, the copy arrives at this instant, in nanoseconds of gPTP.
 #[tactic(auto, using(crate::proofs::SoakLemmas::sent_soon))]
 fn copy_arrival(number: u64, draw: u32) -> i64
     requires { number < 1000000 }
     ensures { result ≡ pos (arrival_of soak_plan number + delay_by draw) }
 {
-    SOAK_PLAN.arrival(number) + i64::from(delay_drawn(draw))
+    SOAK_PLAN.arrival(number) + i64::from(draw % 64 * DELAY_STEP)
 }
 
 /// Delivers one copy, two copies or no copy of a packet, as a drawn number says.
 fn deliver(noise: &mut Noise, number: u64, copies: &mut Vec<(i64, u64)>) -> Result<(), NoMemory>
     requires { number < 1000000 }
-    ensures drawn { OnOk result ((seed : ℕ) → noise.old ≡ state_after seed (draws_before seed number) → noise.new ≡ state_after seed (draws_before seed (suc number))) }
-    ensures copied { OnOk result ((seed : ℕ) → noise.old ≡ state_after seed (draws_before seed number) → copies.new.items ≡ copies.old.items ++ copies_of_packet seed number) }
+    ensures { OnOk result ((seed : ℕ) → noise.old ≡ state_after seed (draws_before seed number) → HasDelivered seed number noise.new copies.old.items copies.new.items) }
 {
     for _ in 0..copies_drawn(noise.draw()) {
         let arrival = copy_arrival(number, noise.draw());

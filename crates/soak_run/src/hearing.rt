@@ -3,8 +3,8 @@
 ghost use Rattle.std.specs.Prelude.{◌≡◌, ◌≤◌, ◌<◌, ◌^◌, [], All, IfOk, IsTrue, List, None, false, length, ℕ};
 ghost use Rattle.listener.specs.Listening.{StandsFor, is_closed};
 ghost use Rattle.talker.specs.Journal.{stream_of};
-ghost use Rattle.soak_run.specs.Captured.{captured, soak_listener};
-ghost use Rattle.soak_run.specs.state.Hearing.{IsDeliverable, IsReady, Takes, closed_at, records_of, shown_by};
+ghost use Rattle.soak_run.specs.Captured.{captured};
+ghost use Rattle.soak_run.specs.state.Hearing.{AreDeliverable, IsDeliverable, IsReady, Takes, closed_at, records_of, shown_by};
 
 use avtp_base::NoMemory;
 use listener::{ListenPlan, RecordListener};
@@ -79,10 +79,9 @@ pub struct Hearing<'a> {
 impl<'a> Hearing<'a> {
     ghost use Rattle.std.specs.Prelude.{MatchResult};
     ghost use Rattle.sample_schedule.specs.declared.shown.Shown.{Shown as ShownValue};
-    ghost use Rattle.listener.specs.Listening.{IsIdle};
     ghost use Rattle.soak_run.specs.declared.hearing.Hearing.{Hearing as HearingValue};
     ghost use Rattle.soak_run.specs.state.Hearing.{left_of, pull_at, steps_left};
-    ghost use Rattle.soak_run.specs.state.Showing.{HasShown};
+    ghost use Rattle.soak_run.specs.state.Showing.{HasBegun, HasShown, IsWaiting};
 
     /// A hearing before the first delivery is given.
     pub fn begin(
@@ -90,12 +89,8 @@ impl<'a> Hearing<'a> {
         talker: Talker<'a>,
         deliveries: &'a [(i64, u64)],
     ) -> Result<Self, NoMemory>
-        requires deliverable { All (IsDeliverable talker) deliveries.now }
-        requires few { length deliveries.now ≤ 2 ^ 62 }
-        ensures begun { IfOk result (λ hearing. (hearing.stage ≡ Stage.Giving) × HasShown hearing hearing []) }
-        ensures plan { IfOk result (λ hearing. hearing.listener.plan ≡ soak_listener) }
-        ensures talker { IfOk result (λ hearing. hearing.talker ≡ talker.entry) }
-        ensures deliveries { IfOk result (λ hearing. hearing.deliveries.now ≡ deliveries.now) }
+        requires { AreDeliverable talker deliveries.now }
+        ensures { IfOk result (HasBegun talker.entry deliveries.now) }
     {
         let listener = RecordListener::begin(alloc, SOAK_LISTENER)?;
         Ok(Hearing {
@@ -111,8 +106,7 @@ impl<'a> Hearing<'a> {
     /// Gives the next delivery to the listener. If all deliveries were given, closes the listener. All items that were
     /// due before the call must have been shown.
     fn go_on(&mut self) -> Result<(), NoMemory>
-        requires giving { self.old.stage ≡ Stage.Giving }
-        requires idle { IsIdle self.old.listener }
+        requires { IsWaiting self.old }
         ensures shows { (begun : HearingValue) (items : List ShownValue) → HasShown begun self.old items → HasShown begun self.new items }
         ensures left { left_of self.new.deliveries.now self.new.listener ≤ left_of self.old.deliveries.now self.old.listener }
         ensures on { MatchResult result (λ _. (pull_at self.new.stage ≡ None) × (steps_left self.new.stage self.new.deliveries.now self.new.given < steps_left self.old.stage self.old.deliveries.now self.old.given)) (λ _. self.new.stage ≡ Stage.Giving) }

@@ -7,7 +7,7 @@ ghost use Rattle.talk_plan.specs.declared.fault.TalkFault.TheVariants.{Memory};
 ghost use Rattle.talker.specs.Journal.{stream_of};
 ghost use Rattle.soak_run.specs.Soak.{deliveries_of};
 ghost use Rattle.soak_run.specs.Captured.{captured, soak_capture, soak_listener};
-ghost use Rattle.soak_run.specs.state.Hearing.{IsDeliverable};
+ghost use Rattle.soak_run.specs.state.Hearing.{AreDeliverable};
 ghost use Rattle.soak_run.specs.Outcomes.{outcomes, soak_counts, total};
 
 use crate::counts::SoakCounts;
@@ -31,8 +31,7 @@ fn hear<T: Threads + Sync>(
     talker: Talker<'_>,
     deliveries: &[(i64, u64)],
 ) -> Result<SoakCounts, NoMemory>
-    requires deliverable { All (IsDeliverable talker) deliveries.now }
-    requires few { length deliveries.now ≤ 2 ^ 62 }
+    requires deliverable { AreDeliverable talker deliveries.now }
     ensures { IfOk result (λ counts. counts ≡ outcomes (length deliveries.now) (shown_of soak_listener (map (captured (stream_of talker.entry.plan talker.entry.input)) deliveries.now))) }
 {
     let mut pipe = Pipe::begin(alloc, RING)?;

@@ -7,9 +7,9 @@ ghost use Rattle.talk_audio.specs.Audio.{silent_quadlets as silent_quadlets_of};
 ghost use Rattle.talk_plan.specs.Ethernet.{packet_bytes};
 ghost use Rattle.talk_audio.specs.Packets.{am824_kind, dbc_of, iec_packet, stamp_of};
 ghost use Rattle.talk_plan.specs.Places.{IsPacketOf};
-ghost use Rattle.talk_plan.specs.Plan.{IsAudioPlan, fdf_of as fdf_of_rate};
+ghost use Rattle.talk_plan.specs.Plan.{fdf_of as fdf_of_rate};
 ghost use Rattle.talk_audio.specs.Streams.{IsAm824};
-ghost use Rattle.talk_audio.specs.state.Packets.{IsBlockPacket};
+ghost use Rattle.talk_audio.specs.state.Packets.{IsAm824Packet, IsBlockPacket, IsPlanWith};
 
 use crate::audio::SAMPLES_LIMIT;
 use avtp_header::subtype;
@@ -76,8 +76,7 @@ fn block_count(plan: &TalkPlan, n: u64) -> u8
 impl Am824Format {
     /// The format of a plan of AM824.
     pub fn of(plan: &TalkPlan) -> Self
-        requires plan { IsAudioPlan plan.now }
-        requires kind { plan.now.kind ≡ TalkKind.Am824 }
+        requires { IsPlanWith plan.now TalkKind.Am824 }
         ensures { IsAm824 result plan.now }
     {
         let Some(fdf) = fdf_of(plan.rate) else {
@@ -93,8 +92,7 @@ impl Am824Format {
     /// the interval. If no block count in a packet is a multiple of the interval, the packet has no timestamp (IEC
     /// 61883-6).
     fn stamp(&self, plan: &TalkPlan, n: u64) -> Option<u64>
-        requires packet { IsPacketOf plan.now n }
-        requires format { IsAm824 self.now plan.now }
+        requires { IsAm824Packet self.now plan.now n }
         ensures { result ≡ stamp_of (am824_kind plan.now) plan.now n }
     {
         let stamped = anchor_index(block_count(plan, n), self.interval);
@@ -105,13 +103,15 @@ impl Am824Format {
         }
     }
 
-    /// Packet `n`, with its data blocks.
-    fn packet<'a>(&self, plan: &TalkPlan, n: u64, blocks: &'a [u8]) -> IecView<'a>
-        requires { IsBlockPacket self.now plan.now n blocks.now }
-        ensures { iec_shape result ≡ iec_packet plan.now n blocks.now }
+    /// Writes the frame of packet `n`, with its data blocks.
+    #[tactic(auto, unfolding(talk_plan::specs::Ethernet::packet_bytes))]
+    #[inline(never)]
+    pub fn write(&self, plan: &TalkPlan, out: &mut [u8], n: u64, blocks: &[u8])
+        requires { IsBlockPacket self.now plan.now n blocks.now out.old }
+        ensures { out.new ≡ packet_bytes (Am824Data (iec_packet plan.now n blocks.now)) }
     {
         let length = 8 + blocks.len() as u16;
-        IecView {
+        let packet = IecView {
             header: plan.header(subtype::IEC_61883, self.stamp(plan, n), n, length),
             gateway_info: 0,
             channel: 31,
@@ -127,19 +127,9 @@ impl Am824Format {
             count: plan.count,
             payload: blocks,
             reserved: false,
-        }
-    }
-
-    /// Writes the frame of packet `n`, with its data blocks.
-    #[tactic(auto, unfolding(talk_plan::specs::Ethernet::packet_bytes))]
-    #[inline(never)]
-    pub fn write(&self, plan: &TalkPlan, out: &mut [u8], n: u64, blocks: &[u8])
-        requires packet { IsBlockPacket self.now plan.now n blocks.now }
-        requires room { length out.old ≡ 50 + length blocks.now }
-        ensures { out.new ≡ packet_bytes (Am824Data (iec_packet plan.now n blocks.now)) }
-    {
+        };
         write_ethernet(&mut out[..ETHERNET_HEADER]);
-        let Ok(_) = write_iec(&mut out[ETHERNET_HEADER..], &self.packet(plan, n, blocks)) else {
+        let Ok(_) = write_iec(&mut out[ETHERNET_HEADER..], &packet) else {
             unreachable!()
         };
     }

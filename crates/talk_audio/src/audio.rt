@@ -6,7 +6,8 @@ ghost use Rattle.talk_audio.specs.Journal.{samples_in};
 ghost use Rattle.talk_plan.specs.Places.{IsPacketOf};
 ghost use Rattle.talk_plan.specs.Plan.{IsAudioPlan};
 ghost use Rattle.talk_audio.specs.Samples.{filled_up, is_whole as is_whole_by};
-ghost use Rattle.talk_audio.specs.Streams.{IsAudio, IsPacketOfInput, IsSentOf, audio_of, headers_of, packets_of, samples_size};
+ghost use Rattle.talk_audio.specs.Streams.{IsAudio, IsPacketOfInput, audio_of, headers_of, packets_of, samples_size};
+ghost use Rattle.talk_audio.specs.state.Packets.{IsSentInto};
 ghost use Rattle.talk_plan.specs.Timing.{arrival_of};
 
 use crate::am824::{Am824Format, BLOCKS_HEADER, block_size, silent_quadlets};
@@ -59,8 +60,7 @@ impl AudioStream {
     /// The number of bytes in a sample frame.
     fn frame_size(&self) -> usize
         requires { IsAudio self.now }
-        ensures value { result ≡ (audio_of self.now).frame }
-        ensures some { 0 < result }
+        ensures { result ≡ (audio_of self.now).frame }
     {
         match self.format {
             Format::Pcm(pcm) => pcm.frame_size(self.plan.channels),
@@ -68,19 +68,8 @@ impl AudioStream {
         }
     }
 
-    /// The number of bytes in a frame's headers.
-    fn headers(&self) -> usize
-        ensures value { result ≡ headers_of self.now }
-        ensures least { 18 ≤ result }
-        ensures most { result ≤ 50 }
-    {
-        match self.format {
-            Format::Pcm(_) => ETHERNET_HEADER + PCM_HEADER,
-            Format::Am824(_) => ETHERNET_HEADER + BLOCKS_HEADER,
-        }
-    }
-
     /// The number of packets that hold the input.
+    #[tactic(auto, using(crate::proofs::FormatLemmas::format_of))]
     pub fn packets(&self, input: &[u8]) -> u64
         requires { IsAudio self.now }
         ensures { result ≡ packets_of self.now input.now }
@@ -90,6 +79,7 @@ impl AudioStream {
     }
 
     /// Whether the input is a whole number of sample frames.
+    #[tactic(auto, using(crate::proofs::FormatLemmas::format_of))]
     pub fn is_whole(&self, input: &[u8]) -> bool
         requires { IsAudio self.now }
         ensures { result ≡ is_whole_by (audio_of self.now).frame input.now }
@@ -103,14 +93,17 @@ impl AudioStream {
         ensures value { result ≡ headers_of self.now + samples_size self.now }
         ensures bound { result ≤ 1526 }
     {
-        self.headers() + self.size
+        let header = match self.format {
+            Format::Pcm(_) => PCM_HEADER,
+            Format::Am824(_) => BLOCKS_HEADER,
+        };
+        ETHERNET_HEADER + header + self.size
     }
 
     /// When packet `n` is sent, in nanoseconds of gPTP.
     #[inline(always)]
     pub fn arrival(&self, n: u64) -> i64
-        requires stream { IsAudio self.now }
-        requires packet { IsPacketOf self.now.plan n }
+        requires { IsPacketOf self.now.plan n }
         ensures { result ≡ pos (arrival_of self.now.plan n) }
     {
         self.plan.arrival(n)
@@ -132,9 +125,8 @@ impl AudioStream {
     /// Writes the frame of packet `n`, which is sent at `arrival`, with the given samples.
     #[inline(always)]
     fn write_samples(&self, out: &mut [u8], n: u64, arrival: i64, samples: &[u8])
-        requires sent { IsSentOf self.now n arrival }
+        requires frame { IsSentInto self.now n arrival out.old }
         requires whole { length samples.now ≡ samples_size self.now }
-        requires room { length out.old ≡ headers_of self.now + samples_size self.now }
         ensures { out.new ≡ packet_bytes ((audio_of self.now).packet n samples.now) }
     {
         match &self.format {
@@ -151,9 +143,8 @@ impl AudioStream {
     #[cold]
     #[inline(never)]
     fn write_last(&self, out: &mut [u8], n: u64, arrival: i64, rest: &[u8])
-        requires sent { IsSentOf self.now n arrival }
+        requires frame { IsSentInto self.now n arrival out.old }
         requires part { length rest.now ≤ samples_size self.now }
-        requires room { length out.old ≡ headers_of self.now + samples_size self.now }
         ensures { out.new ≡ packet_bytes ((audio_of self.now).packet n (filled_up (audio_of self.now).silence rest.now)) }
     {
         let mut filled = self.silence();
@@ -162,7 +153,7 @@ impl AudioStream {
     }
 
     /// The input from the first sample of packet `n` on.
-    #[tactic(auto, using(crate::proofs::SampleLemmas::begun_within))]
+    #[tactic(auto, using(crate::proofs::FormatLemmas::format_of, crate::proofs::SampleLemmas::begun_within))]
     fn samples_from<'a>(&self, input: &'a [u8], n: u64) -> &'a [u8]
         requires { IsPacketOfInput self.now input.now n }
         ensures { result.now ≡ drop (n * samples_size self.now) input.now }

@@ -3,7 +3,7 @@
 ghost use Rattle.std.specs.Prelude.{◌≡◌, ◌+◌, ◌*◌, ◌≤◌, ◌<◌, ◌^◌, ◌++◌, [], length, pos, take, drop, Option, Some, None};
 ghost use Rattle.aaf_format.specs.Aaf.{aaf_shape, frame_size as frame_size_of};
 ghost use Rattle.talk_audio.specs.Packets.{aaf_bytes, aaf_packet, kind_of, stamp_of};
-ghost use Rattle.talk_audio.specs.state.Packets.{IsPcmPacket, front_of, patched};
+ghost use Rattle.talk_audio.specs.state.Packets.{IsPcmPacket, IsPlanWith, front_of, patched};
 ghost use Rattle.talk_plan.specs.Places.{IsSentAt};
 ghost use Rattle.talk_plan.specs.Plan.{IsAudioPlan, rate_code as rate_code_of};
 ghost use Rattle.talk_audio.specs.Streams.{HasHeaders, IsPcm, IsPcmStream};
@@ -103,8 +103,7 @@ fn copy_samples(out: &mut [u8], samples: &[u8])
 impl PcmFormat {
     /// The format of a plan of PCM.
     pub fn of(plan: &TalkPlan, format: AafFormat, sparse: bool) -> Self
-        requires plan { IsAudioPlan plan.now }
-        requires kind { plan.now.kind ≡ TalkKind.Aaf format sparse }
+        requires { IsPlanWith plan.now (TalkKind.Aaf format sparse) }
         ensures { IsPcmStream result plan.now }
     {
         let Some(code) = rate_code(plan.rate) else {
@@ -131,7 +130,19 @@ impl PcmFormat {
     {
         let samples = [0; SAMPLES_LIMIT];
         let size = plan.count as usize * self.frame_size(plan.channels);
-        let view = self.packet(plan, 0, plan.arrival(0), &samples[..size]);
+        let stamp = self.stamp(plan, 0, plan.arrival(0));
+        let view = AafView {
+            header: plan.header(subtype::AAF, stamp, 0, size as u16),
+            format: self.format,
+            nsr: self.code,
+            channels: plan.channels,
+            depth: (8 * width_of(self.format)) as u8,
+            sparse: self.sparse,
+            evt: 0,
+            count: plan.count,
+            payload: &samples[..size],
+            reserved: false,
+        };
         let mut packet = [0; PCM_HEADER + SAMPLES_LIMIT];
         let Ok(_) = write_aaf(&mut packet, &view) else {
             unreachable!()
@@ -163,37 +174,10 @@ impl PcmFormat {
         }
     }
 
-    /// Packet `n`, which is sent at `arrival`, with its samples.
-    fn packet<'a>(&self, plan: &TalkPlan, n: u64, arrival: i64, samples: &'a [u8]) -> AafView<'a>
-        requires sent { IsSentAt plan.now n arrival }
-        requires format { IsPcm self.now plan.now }
-        requires whole { length samples.now ≡ plan.now.count * frame_size_of plan.now.channels self.now.format }
-        ensures { aaf_shape result ≡ aaf_packet self.now.format self.now.sparse plan.now n samples.now }
-    {
-        AafView {
-            header: plan.header(
-                subtype::AAF,
-                self.stamp(plan, n, arrival),
-                n,
-                samples.len() as u16,
-            ),
-            format: self.format,
-            nsr: self.code,
-            channels: plan.channels,
-            depth: (8 * width_of(self.format)) as u8,
-            sparse: self.sparse,
-            evt: 0,
-            count: plan.count,
-            payload: samples,
-            reserved: false,
-        }
-    }
-
     /// Writes the frame of packet `n`, which is sent at `arrival`, with its samples.
     #[inline(always)]
     pub fn write(&self, plan: &TalkPlan, out: &mut [u8], n: u64, arrival: i64, samples: &[u8])
-        requires packet { IsPcmPacket self.now plan.now n arrival samples.now }
-        requires room { length out.old ≡ 42 + length samples.now }
+        requires { IsPcmPacket self.now plan.now n arrival samples.now out.old }
         ensures { out.new ≡ aaf_bytes self.now.format self.now.sparse plan.now n samples.now }
     {
         if self.steady {
@@ -214,8 +198,7 @@ impl PcmFormat {
     #[cold]
     #[inline(never)]
     fn write_marked(&self, plan: &TalkPlan, out: &mut [u8], n: u64, arrival: i64, samples: &[u8])
-        requires packet { IsPcmPacket self.now plan.now n arrival samples.now }
-        requires room { length out.old ≡ 42 + length samples.now }
+        requires { IsPcmPacket self.now plan.now n arrival samples.now out.old }
         ensures { out.new ≡ aaf_bytes self.now.format self.now.sparse plan.now n samples.now }
     {
         let stamp = self.stamp(plan, n, arrival);

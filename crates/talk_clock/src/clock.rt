@@ -7,6 +7,7 @@ ghost use Rattle.talk_clock.specs.Clock.{clock_arrival, clock_mr, clock_packet, 
 ghost use Rattle.talk_clock.specs.Clock.{points_size, AreFew, clock_frame_size, clock_bytes};
 ghost use Rattle.talk_plan.specs.Plan.{IsAudioPlan};
 ghost use Rattle.talk_clock.specs.Streams.{IsClockOf, IsClockStream, IsPacketOfClock, IsPointOfClock};
+ghost use Rattle.talk_clock.specs.state.Points.{IsFirstPoint, IsInstantOf, IsPlaceOf, IsSizeOf};
 
 use byteorder::{BigEndian, ByteOrder};
 use crf_format::{CrfView, write_crf};
@@ -53,8 +54,7 @@ impl ClockStream {
     #[tactic(auto, using(crate::proofs::ClockLemmas::few_frames))]
     fn points(&self) -> u64
         requires { IsClockStream self.now }
-        ensures value { result ≡ points_for self.now.crf self.now.plan self.now.stream }
-        ensures bound { result ≤ 2 ^ 29 }
+        ensures { result ≡ points_for self.now.crf self.now.plan self.now.stream }
     {
         (self.stream * u64::from(self.plan.count)).div_ceil(self.plan.spacing(&self.crf))
     }
@@ -67,43 +67,33 @@ impl ClockStream {
         self.points().div_ceil(u64::from(self.crf.points))
     }
 
-    /// The sample frame of point `s`, counted through the stream.
-    fn frame(&self, s: u64) -> u64
-        requires { IsPointOfClock self.now s }
-        ensures { result ≡ frame_at self.now.crf self.now.plan s }
-    {
-        s * self.plan.spacing(&self.crf)
-    }
-
     /// The number of the first point of packet `m`.
     fn first(&self, m: u64) -> u64
         requires { IsPacketOfClock self.now m }
-        ensures value { result ≡ first_point self.now.crf m }
-        ensures known { result < points_for self.now.crf self.now.plan self.now.stream }
+        ensures { IsFirstPoint self.now m result }
     {
         m * u64::from(self.crf.points)
     }
 
-    /// The number of the stream packet that holds the sample frame of point `s`.
+    /// Where point `s` is: the number of a stream packet, and which of the packet's sample frames the point is at.
     #[tactic(auto, using(crate::proofs::ClockLemmas::point_within))]
-    fn stream_packet(&self, s: u64) -> u64
+    fn place(&self, s: u64) -> (u64, u32)
         requires { IsPointOfClock self.now s }
-        ensures value { result ≡ frame_at self.now.crf self.now.plan s / self.now.plan.count }
-        ensures frames { result * self.now.plan.count ≤ 2 ^ 28 }
+        ensures { IsPlaceOf self.now s result.0 result.1 }
     {
-        self.frame(s) / u64::from(self.plan.count)
+        let frame = s * self.plan.spacing(&self.crf);
+        let count = u64::from(self.plan.count);
+        (frame / count, (frame % count) as u32)
     }
 
     /// The instant of point `s`, in nanoseconds of gPTP.
-    #[tactic(auto, using(crate::proofs::ClockLemmas::point_within), unfolding(crate::specs::Clock::clock_point))]
+    #[tactic(auto, unfolding(crate::specs::Clock::clock_point))]
     fn point(&self, s: u64) -> u64
         requires { IsPointOfClock self.now s }
-        ensures value { result ≡ clock_point self.now.crf self.now.plan s }
-        ensures lead { self.now.plan.lead ≤ result }
-        ensures bound { result < self.now.plan.lead + 2 ^ 32 * 1000000000 }
+        ensures { IsInstantOf self.now s result }
     {
-        let within = self.frame(s) % u64::from(self.plan.count);
-        self.plan.instant(self.stream_packet(s), within as u32)
+        let (packet, within) = self.place(s);
+        self.plan.instant(packet, within)
     }
 
     /// The time at which packet `m` is sent, in nanoseconds of gPTP.
@@ -119,9 +109,7 @@ impl ClockStream {
     /// The number of points of packet `m`.
     fn size(&self, m: u64) -> usize
         requires { IsPacketOfClock self.now m }
-        ensures value { result ≡ points_size self.now.crf self.now.plan self.now.stream m }
-        ensures some { 1 ≤ result }
-        ensures bound { result ≤ 180 }
+        ensures { IsSizeOf self.now m result }
     {
         u64::from(self.crf.points).min(self.points() - self.first(m)) as usize
     }
@@ -166,7 +154,7 @@ impl ClockStream {
         requires whole { timestamps.now ≡ flat_map (big_bytes 8) (points_in self.now.crf self.now.plan self.now.stream m) }
         ensures { crf_shape result ≡ clock_packet self.now.crf self.now.plan self.now.stream m }
     {
-        let first = self.stream_packet(self.first(m));
+        let (first, _) = self.place(self.first(m));
         CrfView {
             sv: true,
             mr: self.plan.restart_bit(first),
@@ -183,20 +171,6 @@ impl ClockStream {
         }
     }
 
-    /// Writes packet `m`.
-    fn write_packet(&self, out: &mut [u8], m: u64)
-        requires packet { IsPacketOfClock self.now m }
-        requires room { length out.old + 18 ≡ clock_frame_size self.now.crf self.now.plan self.now.stream m }
-        ensures { out.new ≡ crf_spelling (clock_packet self.now.crf self.now.plan self.now.stream m) }
-    {
-        let mut timestamps = [0; TIMESTAMP * POINTS_LIMIT];
-        let timestamps = &mut timestamps[..TIMESTAMP * self.size(m)];
-        self.write_timestamps(timestamps, m);
-        let Ok(_) = write_crf(out, &self.packet(m, timestamps)) else {
-            unreachable!()
-        };
-    }
-
     /// Writes the frame of packet `m`.
     #[tactic(auto, unfolding(crate::specs::Clock::clock_bytes))]
     #[cold]
@@ -206,7 +180,12 @@ impl ClockStream {
         requires room { length out.old ≡ clock_frame_size self.now.crf self.now.plan self.now.stream m }
         ensures { out.new ≡ clock_bytes (clock_packet self.now.crf self.now.plan self.now.stream m) }
     {
+        let mut timestamps = [0; TIMESTAMP * POINTS_LIMIT];
+        let timestamps = &mut timestamps[..TIMESTAMP * self.size(m)];
+        self.write_timestamps(timestamps, m);
         write_ethernet(&mut out[..ETHERNET_HEADER]);
-        self.write_packet(&mut out[ETHERNET_HEADER..], m);
+        let Ok(_) = write_crf(&mut out[ETHERNET_HEADER..], &self.packet(m, timestamps)) else {
+            unreachable!()
+        };
     }
 }

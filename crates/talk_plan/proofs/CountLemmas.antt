@@ -1,5 +1,5 @@
 -- Lemmas about functions of natural numbers.
-use Rattle.std.proofs.Common.{◌≡◌, ℕ, zero, suc, ◌+◌, ◌-◌, ◌≤◌, List, [], ◌∷◌, ◌++◌, map, refl, ap, ◌∙◌, arith}
+use Rattle.std.proofs.Common.{◌≡◌, ℕ, zero, suc, ◌+◌, ◌-◌, ◌≤◌, [], ◌∷◌, ◌++◌, map, refl, ap, ◌∙◌, arith}
 use Rattle.std.specs.List.{range_with_len}
 
 rises_by : (g : ℕ → ℕ) → ((k : ℕ) → g k ≤ g (k + 1)) → (a k d : ℕ) → a + d ≡ k → g a ≤ g k

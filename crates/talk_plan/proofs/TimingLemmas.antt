@@ -1,5 +1,5 @@
 -- When the packets of a plan are sent.
-use Rattle.std.proofs.Common.{◌≡◌, ℕ, suc, ◌+◌, ◌*◌, ◌^◌, ◌<◌, ◌≤◌, inl, inr, nat_abs, arith, zero, ◌-◌, refl, ap}
+use Rattle.std.proofs.Common.{◌≡◌, ℕ, suc, ◌+◌, ◌*◌, ◌^◌, ◌<◌, ◌≤◌, inl, inr, nat_abs, arith}
 use Rattle.std.proofs.Math.Nat.{div-mul-le_self, lt-div-mul-add, mul-le-mul_left, mul-le-mul_right}
 use Rattle.std.proofs.lemmas.Bool.{cases_lt}
 use Rattle.std.proofs.lemmas.Int.{ints}
@@ -54,6 +54,10 @@ sum_of rate a b c some e =
     (omega (arith, x.under, y.under)) (omega (arith, x.over, y.over)) z.under z.over
 
 -- ---- packet n of a plan
+
+-- no run begins after a packet that is in it
+pub first_before : (plan : TalkPlan) (n : ℕ) → IsAudioPlan plan → first_packet plan (run_of plan n) ≤ n
+first_before plan n p = (in_run plan.restart plan.jump plan.count n p.restart).begun
 
 pub few_jumps : (plan : TalkPlan) (n : ℕ) → IsAudioPlan plan → n * plan.count ≤ 268435456 → run_of plan n * plan.jump ≤ 33554432000000000
 few_jumps plan n p events =

@@ -2,9 +2,10 @@
 --
 -- The events of a stream are its sample frames, counted from 0 in each run. The clock has a point at event 0, and a
 -- further one after every `spacing` events.
-use Rattle.std.specs.Prelude.{◌≡◌, ℕ, suc, ◌+◌, ◌-◌, ◌*◌, ◌/◌, ◌%◌, ◌≤◌, nat_lt, if◌then◌else◌, pos}
+use Rattle.std.specs.Prelude.{◌≡◌, ℕ, suc, ◌+◌, ◌-◌, ◌*◌, ◌/◌, ◌%◌, ◌<◌, ◌≤◌, nat_lt, if◌then◌else◌, pos}
 use Rattle.clock_track.specs.declared.pair.Pair.{Pair}
-use Rattle.clock_track.specs.Pairs.{spot_by}
+use Rattle.clock_track.specs.Pairs.{Covers, IsJoined, spot_by}
+use Rattle.stream_journal.specs.Regular.{IsSteady}
 use Rattle.time_unfold.specs.Lines.{instant_at}
 use Rattle.talk_plan.specs.Timing.{nominal_offset}
 
@@ -53,6 +54,17 @@ pair_from b start m = record {
 -- the next run starts at least 4 nanoseconds after the nominal end of the run that starts at `start`
 abbrev pub IsNextStart : Beat → ℕ → ℕ → ℕ → Type 0
 IsNextStart b start events next = start + nominal_offset b.rate events + 4 ≤ next
+
+-- the period of each pair of the run is within 1/8 of its nominal value, and the periods of adjacent pairs differ little
+pub record HasSteadyPairs (b : Beat) (start : ℕ) : Type 0 where
+  pub even : (m : ℕ) → IsJoined (pair_from b start m)
+  pub steady : (m : ℕ) → IsSteady (pair_from b start m) (pair_from b start (suc m))
+
+-- A run of `events` events starts at `start`, and the next run starts at `next`: no pair of either run covers the
+-- instant in a timestamp of the other run.
+pub record AreApart (b : Beat) (start events next : ℕ) : Type 0 where
+  pub no_earlier : (m e : ℕ) → suc (suc m) * b.spacing ≤ events → ¬ Covers (pair_from b start m) b.rate (pos (stamped_at b next e))
+  pub no_later : (m e : ℕ) → e < events → ¬ Covers (pair_from b next m) b.rate (pos (stamped_at b start e))
 
 -- if a listener computes the instants of the clock's events from the pair, the event nearest to `instant` is at exactly
 -- `instant`, in whole nanoseconds

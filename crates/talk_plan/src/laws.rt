@@ -3,9 +3,8 @@
 ghost use Rattle.std.specs.Prelude.{◌≡◌, ◌↔◌, ◌<◌, ◌≤◌, ◌+◌, ◌*◌, ◌/◌, suc, pos, ℕ, Some};
 ghost use Rattle.aaf_format.specs.Aaf.{rate_of};
 ghost use Rattle.iec61883_format.specs.Iec.{rate_of_fdf, syt_interval};
-ghost use Rattle.clock_track.specs.Pairs.{Covers, IsJoined, IsOfRate, period};
-ghost use Rattle.stream_journal.specs.Regular.{IsSteady};
-ghost use Rattle.talk_plan.specs.Beats.{Beat, IsBeat, IsNextStart, IsOnEvent, pair_from, point_at, stamped_at};
+ghost use Rattle.clock_track.specs.Pairs.{Covers, IsOfRate, period};
+ghost use Rattle.talk_plan.specs.Beats.{AreApart, Beat, HasSteadyPairs, IsBeat, IsNextStart, IsOnEvent, pair_from, point_at, stamped_at};
 ghost use Rattle.talk_plan.specs.Plan.{fdf_of, interval_of, rate_code};
 
 /// The code of each rate is the one that AAF or IEC 61883-6 gives that rate. The interval of a rate is the SYT_INTERVAL
@@ -22,15 +21,11 @@ pub fn rates_are_named()
 /// last point up to an event. The pair covers the stamp of the event, and no other pair of any run covers that stamp.
 /// If the clock's frequency is the stream's rate, the stamp is the instant of an event of the clock.
 pub fn clocks_keep_time()
-    ensures even { (b : Beat) (start m : ℕ) → IsBeat b → IsJoined (pair_from b start m) }
-    ensures steady { (b : Beat) (start m : ℕ) → IsBeat b → IsSteady (pair_from b start m) (pair_from b start (suc m)) }
+    ensures steady { (b : Beat) (start : ℕ) → IsBeat b → HasSteadyPairs b start }
     ensures renewed { (b : Beat) (start m next : ℕ) → IsBeat b → IsNextStart b start (suc (suc m) * b.spacing) next
         → point_at b start (suc m) + period (pair_from b start m) ≤ next }
     ensures one { (b : Beat) (start m e : ℕ) → IsBeat b → Covers (pair_from b start m) b.rate (pos (stamped_at b start e)) ↔ e / b.spacing ≡ suc m }
-    ensures no_earlier { (b : Beat) (start events next m e : ℕ) → IsBeat b → IsNextStart b start events next → suc (suc m) * b.spacing ≤ events
-        → ¬ Covers (pair_from b start m) b.rate (pos (stamped_at b next e)) }
-    ensures no_later { (b : Beat) (start events next m e : ℕ) → IsBeat b → IsNextStart b start events next → e < events
-        → ¬ Covers (pair_from b next m) b.rate (pos (stamped_at b start e)) }
+    ensures apart { (b : Beat) (start events next : ℕ) → IsBeat b → IsNextStart b start events next → AreApart b start events next }
     ensures exact { (b : Beat) (start m e : ℕ) → IsBeat b → IsOfRate (pair_from b start m) b.rate
         → Covers (pair_from b start m) b.rate (pos (stamped_at b start e)) → IsOnEvent (pair_from b start m) b.rate (stamped_at b start e) }
 {}

@@ -40,23 +40,12 @@ impl TalkPlan {
     #[tactic(auto, using(crate::proofs::RunLemmas::some_packets, crate::proofs::RunLemmas::begun))]
     fn first_packet(&self, n: u64) -> u64
         requires { IsAudioPlan self.now }
-        ensures value { result ≡ first_packet_of self.now (run_of self.now n) }
-        ensures bound { result ≤ n }
+        ensures { result ≡ first_packet_of self.now (run_of self.now n) }
     {
         match self.restart {
             None => 0,
             Some(packets) => self.run(n) * u64::from(packets),
         }
-    }
-
-    /// How far all restarts up to packet `n` set presentation times forward in total, in nanoseconds.
-    #[tactic(auto, using(crate::proofs::TimingLemmas::few_jumps))]
-    fn jumps(&self, n: u64) -> u64
-        requires { IsPacketOf self.now n }
-        ensures value { result ≡ run_of self.now n * self.now.jump }
-        ensures bound { result ≤ 2 ^ 25 * 1000000000 }
-    {
-        self.run(n) * u64::from(self.jump)
     }
 
     /// How long `frames` sample frames take, in nanoseconds. At 48, 96 and 192 kHz, a sample frame takes a whole number
@@ -66,8 +55,7 @@ impl TalkPlan {
     fn offset(&self, frames: u64) -> u64
         requires plan { IsAudioPlan self.now }
         requires frames { frames ≤ 2 ^ 29 }
-        ensures value { result ≡ nominal_offset_of self.now.rate frames }
-        ensures bound { result ≤ frames * 125000 }
+        ensures { result ≡ nominal_offset_of self.now.rate frames }
     {
         match self.rate {
             48_000 => frames * 20_833 + frames / 3,
@@ -78,7 +66,7 @@ impl TalkPlan {
     }
 
     /// The instant of event 0 in packet `n`'s run, in nanoseconds of gPTP.
-    #[tactic(auto, using(crate::proofs::RunLemmas::in_run))]
+    #[tactic(auto, using(crate::proofs::RunLemmas::in_run, crate::proofs::RateLemmas::rate_from, crate::proofs::TimingLemmas::few_jumps, crate::proofs::TimingLemmas::short_offset))]
     fn run_start(&self, n: u64) -> u64
         requires { IsPacketOf self.now n }
         ensures value { result ≡ run_start_of self.now (run_of self.now n) }
@@ -89,11 +77,11 @@ impl TalkPlan {
             return start;
         }
         let first = self.first_packet(n);
-        start + self.jumps(n) + self.offset(first * u64::from(self.count))
+        start + self.run(n) * u64::from(self.jump) + self.offset(first * u64::from(self.count))
     }
 
     /// Sample frame `i` of packet `n` is this event of the packet's run.
-    #[tactic(auto, using(crate::proofs::RunLemmas::in_run))]
+    #[tactic(auto, using(crate::proofs::RunLemmas::in_run, crate::proofs::TimingLemmas::first_before))]
     fn event(&self, n: u64, i: u32) -> u64
         requires { IsFrameOf self.now n i }
         ensures value { result ≡ event_of self.now n i }
@@ -129,6 +117,7 @@ impl TalkPlan {
     /// of gPTP. If the sample frame is before the run's second point, the instant is the sample frame's nominal
     /// instant. If the sample frame is at or after the run's second point, the instant is computed from the clock's
     /// last point at or before the sample frame. The computation uses the period that ends at this last point.
+    #[tactic(auto, using(crate::proofs::RateLemmas::rate_from, crate::proofs::TimingLemmas::short_offset))]
     #[cold]
     #[inline(never)]
     fn clocked_instant(&self, crf: &CrfPlan, n: u64, i: u32) -> u64

@@ -1,9 +1,8 @@
 -- A walk over the units of a byte stream.
-use Rattle.std.proofs.Common.{◌≡◌, ℕ, zero, suc, ◌+◌, ◌-◌, ◌<◌, ◌≤◌, Bool, true, false, not, List, [], ◌∷◌, length, drop, ◌++◌, get_or, map, inl, inr, refl, ap}
+use Rattle.std.proofs.Common.{◌≡◌, ℕ, zero, suc, ◌+◌, ◌-◌, ◌<◌, ◌≤◌, Bool, true, false, not, List, [], ◌∷◌, length, drop, ◌++◌, get_or, inl, inr, refl, ap}
 use Rattle.std.proofs.Common.{subst, ◌∙◌, arith}
 use Rattle.std.proofs.lemmas.Bool.{cases_lt}
 use Rattle.std.specs.Prelude.{◌&&◌, ◌||◌, if◌then◌else◌}
-use Rattle.std.specs.List.{range_with_len}
 use Rattle.avtp_base.specs.Octets.{flag}
 use Rattle.avtp_base.proofs.BitLemmas.{flag-below}
 use Rattle.cvf_format.specs.AnnexB.{nal_units, units_from}
@@ -13,6 +12,7 @@ use Rattle.talk_video.specs.AccessUnits.{begins, has_slice, may_begin, unit_at}
 use Rattle.talk_video.specs.Fragments.{packets_for}
 use Rattle.talk_video.specs.state.Listing.{IsWalk, is_begun_by, walked}
 use Rattle.talk_video.specs.Streams.{AreInside, IsInside, first_units, unit_in}
+use Rattle.talk_plan.specs.Plan.{most_input}
 use Rattle.talk_plan.proofs.CountLemmas.{map_more}
 use Rattle.talk_video.proofs.AccessLemmas.{size_of}
 
@@ -66,6 +66,7 @@ walk_on bytes u unit w e behind some inside =
     let packets : packets_for unit ≤ unit.1 - unit.0 = size.few (omega arith) in
     let bit = flag-below (is_begun_by bytes u unit) in
     record {
+      limit = w.limit;
       known = (let known = next.known in omega arith);
       rest = rw more next.rest;
       within = inside;
@@ -83,8 +84,10 @@ walk_on bytes u unit w e behind some inside =
     before_by true packets before size h = omega arith
     before_by false packets before size h = omega arith
 
-pub begin_walk : (bytes : List ℕ) → IsWalk bytes (record { number = 0; at = 0; sliced = false; begun = 0; packets = 0; before = 0 })
-begin_walk bytes = record {
+pub begin_walk : (bytes : List ℕ) → length bytes ≤ most_input
+    → IsWalk bytes (record { number = 0; at = 0; sliced = false; begun = 0; packets = 0; before = 0 })
+begin_walk bytes limit = record {
+  limit = limit;
   known = omega arith;
   rest = refl;
   within = omega arith;

@@ -7,7 +7,7 @@ use Rattle.stream_journal.specs.Journal.{Journal, H264}
 use Rattle.packet_journal.specs.Packets.{part_of, PacketJournal, H264Data}
 use Rattle.talk_plan.specs.declared.plan.TalkPlan.{TalkPlan}
 use Rattle.talk_video.specs.AccessUnits.{nal_in, unit_at}
-use Rattle.talk_clock.specs.Clock.{clock_by, clock_packet, clock_id, clock_packet_by}
+use Rattle.talk_clock.specs.Clock.{clock_by, clock_id, clock_packet_by}
 use Rattle.talk_video.specs.Fragments.{access_unit_of, all_packets, body_at, ends_access_unit, part_at, place_of}
 use Rattle.talk_plan.specs.Headers.{header_of}
 use Rattle.talk_plan.specs.Timing.{mr_of, nominal_offset, timestamp_of}

@@ -2,15 +2,15 @@
 
 ghost use Rattle.std.specs.Prelude.{◌≡◌, ◌<◌, ◌≤◌, false, length, IfOk, IfErr, MatchOption, OnOk};
 ghost use Rattle.cvf_format.specs.AnnexB.{nal_units};
-ghost use Rattle.talk_plan.specs.declared.fault.TalkFault.TheVariants.{Memory};
 ghost use Rattle.talk_video.specs.AccessUnits.{has_slice as has_slice_in, is_first_slice as is_first_slice_in, may_begin as may_begin_in, type_in};
 ghost use Rattle.cvf_format.specs.Cvf.{is_single_type};
 ghost use Rattle.talk_video.specs.Fragments.{all_packets};
-ghost use Rattle.talk_video.specs.state.Listing.{IsEnded, IsNext, IsWalk, is_begun_by, walked};
+ghost use Rattle.talk_video.specs.state.Listing.{IsEnded, IsNext, IsWalk, walked};
 ghost use Rattle.talk_plan.specs.Plan.{most_input};
 ghost use Rattle.talk_video.specs.Streams.{HasListed, IsInside};
 ghost use Rattle.talk_video.specs.Units.{units_fault as units_fault_of};
 
+use avtp_base::NoMemory;
 use avtp_base::octets::{bit_at, bits_at};
 use cvf_format::{fragments, next_unit};
 use memchr::memmem;
@@ -107,23 +107,13 @@ impl Units {
         }
     }
 
-    /// The unit from offset `from` to offset `to` follows the passed units. The result says whether this unit begins a
-    /// new access unit.
-    fn is_begun(&self, bytes: &[u8], from: usize, to: usize) -> bool
-        requires { IsInside bytes.now (from, to) }
-        ensures { result ≡ is_begun_by bytes.now self.now (from, to) }
-    {
-        self.sliced && may_begin(bytes, from, to)
-    }
-
     /// The walk after it has passed one more unit.
     fn with(&self, bytes: &[u8], from: usize, to: usize) -> Self
         requires walk { IsWalk bytes.now self.now }
         requires unit { IsInside bytes.now (from, to) }
-        requires limit { length bytes.now ≤ most_input }
         ensures { result ≡ walked bytes.now self.now (from, to) }
     {
-        let begins = self.is_begun(bytes, from, to);
+        let begins = self.sliced && may_begin(bytes, from, to);
         Units {
             number: self.number + 1,
             at: to,
@@ -136,8 +126,7 @@ impl Units {
 
     /// The next unit, or `None` after the last one.
     pub fn next(&mut self, bytes: &[u8]) -> Option<NalUnit>
-        requires walk { IsWalk bytes.now self.old }
-        requires limit { length bytes.now ≤ most_input }
+        requires { IsWalk bytes.now self.old }
         ensures walk { IsWalk bytes.now self.new }
         ensures next { MatchOption result (IsEnded bytes.now self.old self.new) (λ unit. IsNext bytes.now self.old.number self.new.number unit) }
     {
@@ -183,17 +172,14 @@ pub fn units_fault(bytes: &[u8]) -> Option<TalkFault>
 
 /// All units of a byte stream, and the number of packets that carry them.
 #[tactic(auto, using(crate::proofs::ListingLemmas::begin_walk, crate::proofs::ListingLemmas::listed_more))]
-pub(crate) fn list_units(alloc: Global, bytes: &[u8]) -> Result<(Vec<NalUnit>, u64), TalkFault>
+pub(crate) fn list_units(alloc: Global, bytes: &[u8]) -> Result<(Vec<NalUnit>, u64), NoMemory>
     requires { length bytes.now ≤ most_input }
-    ensures listed { IfOk result (λ listed. HasListed bytes.now listed.0.items listed.1) }
-    ensures only { IfErr result (λ fault. fault ≡ Memory) }
+    ensures { IfOk result (λ listed. HasListed bytes.now listed.0.items listed.1) }
 {
     let mut listed = Vec::new(alloc);
     let mut units = Units::new();
     while let Some(unit) = units.next(bytes) {
-        if listed.push(unit).is_err() {
-            return Err(TalkFault::Memory);
-        }
+        listed.push(unit)?;
     }
     Ok((listed, units.packets))
 }

@@ -6,15 +6,16 @@ ghost use Rattle.cvf_format.specs.Cvf.{cvf_shape, cvf_spelling, header_size};
 ghost use Rattle.packet_journal.specs.Packets.{H264Data};
 ghost use Rattle.talk_plan.specs.declared.fault.TalkFault.TheVariants.{Memory};
 ghost use Rattle.talk_plan.specs.declared.plan.TalkKind.TheVariants.{H264};
-ghost use Rattle.talk_video.specs.Fragments.{access_unit_of, body_by, ends_access_unit as ends_access_unit_of, packets_for, part_by as part_of, rest_in};
+ghost use Rattle.talk_video.specs.Fragments.{access_unit_of, body_by, ends_access_unit as ends_access_unit_of, packets_for, part_by, rest_in};
 ghost use Rattle.talk_plan.specs.Ethernet.{packet_bytes};
 ghost use Rattle.talk_plan.specs.Plan.{IsVideoPlan, most_input};
-ghost use Rattle.talk_video.specs.state.Listing.{IsCarried, IsFragmentAt, IsUnitAt, place_in};
+ghost use Rattle.talk_video.specs.state.Listing.{IsCarried, IsFragmentAt, IsUnitAt};
 ghost use Rattle.talk_video.specs.Streams.{IsPacketOfVideo, IsVideoOf, video_packet};
 ghost use Rattle.talk_video.specs.Units.{units_fault};
 ghost use Rattle.talk_video.specs.Video.{access_instant, stamp_by, video_arrival};
 
 use crate::units::{NalUnit, list_units};
+use avtp_base::NoMemory;
 use avtp_base::octets::bits_at;
 use avtp_header::subtype;
 use cvf_format::{CvfView, NalPart, fragments, write_cvf};
@@ -39,24 +40,6 @@ const FULL_BODY: usize = 1398;
 
 /// How many bytes of a packet are not counted in the packet's stated length.
 const UNCOUNTED: usize = 24;
-
-/// Whether fragment `k` of a unit with `packets` fragments is the whole unit, the first fragment, a middle one or the
-/// last one.
-#[tactic(auto, unfolding(crate::specs::Fragments::part_by))]
-fn part_by(packets: u64, k: u64) -> NalPart
-    requires { k < packets }
-    ensures { result ≡ part_of packets k }
-{
-    if packets == 1 {
-        NalPart::Single
-    } else if k == 0 {
-        NalPart::First
-    } else if k + 1 == packets {
-        NalPart::Last
-    } else {
-        NalPart::Middle
-    }
-}
 
 /// The number of counted bytes before the body: the H.264 timestamp, and the headers of `part`. The packet's stated
 /// length counts the H.264 timestamp, the headers of `part`, and the body.
@@ -84,28 +67,30 @@ fn fragment(rest: &[u8], k: usize) -> &[u8]
 }
 
 impl NalUnit {
-    /// How many packets carry the unit.
-    fn packets(&self) -> u64
-        requires some { self.now.from < self.now.to }
-        requires limit { self.now.to ≤ most_input }
-        ensures { result ≡ packets_for (self.now.from, self.now.to) }
-    {
-        u64::from(fragments(self.to - self.from))
-    }
-
     /// Whether packet `n` carries the whole unit, or the first, a middle or the last fragment of the unit.
+    #[tactic(auto, unfolding(crate::specs::Fragments::part_by))]
     fn part(&self, n: u64) -> NalPart
         requires { IsFragmentAt self.now n }
-        ensures { result ≡ part_of (packets_for (self.now.from, self.now.to)) (n - self.now.first) }
+        ensures { result ≡ part_by (packets_for (self.now.from, self.now.to)) (n - self.now.first) }
     {
-        part_by(self.packets(), n - self.first)
+        let packets = u64::from(fragments(self.to - self.from));
+        let k = n - self.first;
+        if packets == 1 {
+            NalPart::Single
+        } else if k == 0 {
+            NalPart::First
+        } else if k + 1 == packets {
+            NalPart::Last
+        } else {
+            NalPart::Middle
+        }
     }
 
     /// The bytes that packet `n` carries of the unit, not counting the unit's first byte.
     fn body<'a>(&self, bytes: &'a [u8], n: u64) -> &'a [u8]
         requires { IsCarried bytes.now self.now n }
         ensures value { result.now
-            ≡ body_by (part_of (packets_for (self.now.from, self.now.to)) (n - self.now.first)) (n - self.now.first) (rest_in bytes.now (self.now.from, self.now.to)) }
+            ≡ body_by (part_by (packets_for (self.now.from, self.now.to)) (n - self.now.first)) (n - self.now.first) (rest_in bytes.now (self.now.from, self.now.to)) }
         ensures short { length result.now ≤ 1399 }
     {
         let rest = &bytes[self.from + 1..self.to];
@@ -133,36 +118,29 @@ impl<'a> VideoStream<'a> {
         ensures made { IfOk result (IsVideoOf plan input.now) }
         ensures only { IfErr result (λ fault. fault ≡ Memory) }
     {
-        let (units, packets) = list_units(alloc, input)?;
-        Ok(VideoStream {
-            plan,
-            last_stamp,
-            input,
-            units,
-            packets,
-        })
+        match list_units(alloc, input) {
+            Ok((units, packets)) => Ok(VideoStream {
+                plan,
+                last_stamp,
+                input,
+                units,
+                packets,
+            }),
+            Err(NoMemory) => Err(TalkFault::Memory),
+        }
     }
 
-    /// The index of the unit that packet `n` carries. A binary search finds the last unit whose first packet is at most
-    /// `n`.
-    fn place_of_unit(&self, n: u64) -> usize
-        requires { IsPacketOfVideo self.now n }
-        ensures value { result ≡ (place_in self.now n).unit }
-        ensures known { result < length (nal_units self.now.input.now) }
-    {
-        self.units.as_slice().partition_point(
-            |unit: &NalUnit| -> bool
-                ensures { result ≡ nat_le unit.now.first n }
-            { unit.first <= n },
-        ) - 1
-    }
-
-    /// The unit that packet `n` carries.
+    /// The unit that packet `n` carries. A binary search finds the last unit whose first packet is at most `n`.
     fn unit_of(&self, n: u64) -> NalUnit
         requires { IsPacketOfVideo self.now n }
         ensures { IsUnitAt self.now n result }
     {
-        self.units[self.place_of_unit(n)]
+        let place = self.units.as_slice().partition_point(
+            |unit: &NalUnit| -> bool
+                ensures { result ≡ nat_le unit.now.first n }
+            { unit.first <= n },
+        ) - 1;
+        self.units[place]
     }
 
     /// The instant of an access unit, in nanoseconds of gPTP.
@@ -170,9 +148,7 @@ impl<'a> VideoStream<'a> {
     fn instant(&self, access_unit: u64) -> u64
         requires plan { IsVideoPlan self.now.plan }
         requires few { access_unit ≤ most_input }
-        ensures value { result ≡ access_instant self.now.plan access_unit }
-        ensures lead { self.now.plan.lead ≤ result }
-        ensures bound { result < self.now.plan.lead + 2 ^ 32 * 1000000000 }
+        ensures { result ≡ access_instant self.now.plan access_unit }
     {
         self.plan.start as u64
             + u64::from(self.plan.lead)
@@ -180,6 +156,7 @@ impl<'a> VideoStream<'a> {
     }
 
     /// When packet `n` is sent, in nanoseconds of gPTP.
+    #[tactic(auto, unfolding(crate::specs::Video::access_instant))]
     #[cold]
     #[inline(never)]
     pub fn arrival(&self, n: u64) -> i64
@@ -199,13 +176,12 @@ impl<'a> VideoStream<'a> {
         }
     }
 
-    /// Whether packet `n` is the last packet of `access_unit`, the access unit that packet `n` belongs to.
-    fn ends_access_unit(&self, n: u64, access_unit: u64) -> bool
-        requires packet { IsPacketOfVideo self.now n }
-        requires access_unit { access_unit ≡ access_unit_of self.now.input.now (nal_units self.now.input.now) n }
+    /// Whether packet `n`, which carries `unit` or a fragment of it, is the last packet of its access unit.
+    fn ends_access_unit(&self, n: u64, unit: NalUnit) -> bool
+        requires { IsUnitAt self.now n unit }
         ensures { result ≡ ends_access_unit_of self.now.input.now (nal_units self.now.input.now) n }
     {
-        n + 1 == self.packets || self.unit_of(n + 1).access_unit != access_unit
+        n + 1 == self.packets || self.unit_of(n + 1).access_unit != unit.access_unit
     }
 
     /// Packet `n`.
@@ -222,7 +198,7 @@ impl<'a> VideoStream<'a> {
         CvfView {
             header: self.plan.header(subtype::CVF, stamp, n, length),
             ptv: true,
-            marker: self.ends_access_unit(n, unit.access_unit),
+            marker: self.ends_access_unit(n, unit),
             evt: 0,
             h264_timestamp: (instant % (1 << 32)) as u32,
             nal: bits_at(self.input, unit.from, 0, 8),
@@ -244,17 +220,6 @@ impl<'a> VideoStream<'a> {
         ETHERNET_HEADER + UNCOUNTED + counted_header(unit.part(n)) + body.len()
     }
 
-    /// Writes packet `n`.
-    fn write_packet(&self, out: &mut [u8], n: u64)
-        requires packet { IsPacketOfVideo self.now n }
-        requires room { length out.old ≡ length (cvf_spelling (video_packet self.now n)) }
-        ensures { out.new ≡ cvf_spelling (video_packet self.now n) }
-    {
-        let Ok(_) = write_cvf(out, &self.packet(n)) else {
-            unreachable!()
-        };
-    }
-
     /// Writes the frame of packet `n`.
     #[tactic(auto, using(talk_plan::proofs::HeaderLemmas::bytes_size), unfolding(talk_plan::specs::Ethernet::packet_bytes))]
     #[cold]
@@ -265,6 +230,8 @@ impl<'a> VideoStream<'a> {
         ensures { out.new ≡ packet_bytes (H264Data (video_packet self.now n)) }
     {
         write_ethernet(&mut out[..ETHERNET_HEADER]);
-        self.write_packet(&mut out[ETHERNET_HEADER..], n);
+        let Ok(_) = write_cvf(&mut out[ETHERNET_HEADER..], &self.packet(n)) else {
+            unreachable!()
+        };
     }
 }

@@ -25,7 +25,7 @@ use Rattle.talk_clock.specs.Clock.{clock_bytes}
 use Rattle.talk_plan.specs.Ethernet.{ethernet, packet_bytes}
 use Rattle.talker.specs.state.Frames.{left_of}
 use Rattle.talker.specs.Journal.{Stream}
-use Rattle.talk_plan.specs.Plan.{Expects, IsAhead, IsAudioKind}
+use Rattle.talk_plan.specs.Plan.{Expects, IsAhead}
 use Rattle.talker.proofs.FrameLemmas.{AllLater, NotBefore, all_of, comes_first, each, each_from, in_order, length_sorted, none_of, numbered, sorted_all}
 use Rattle.talker.proofs.FrameLemmas.{stays_first}
 use Rattle.talk_plan.proofs.CountLemmas.{rises}

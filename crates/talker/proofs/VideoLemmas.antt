@@ -22,7 +22,7 @@ use Rattle.talk_video.specs.Fragments.{access_unit_of, all_packets, body_at, par
 use Rattle.talker.specs.Frames.{StaysNearBy}
 use Rattle.talk_video.specs.Video.{video_journal, cvf_packet, video_arrival, video_due, video_stamp, video_times}
 use Rattle.talker.specs.Journal.{video_stream}
-use Rattle.talk_plan.specs.Plan.{IsAudioKind, IsVideoPlan}
+use Rattle.talk_plan.specs.Plan.{IsVideoPlan}
 use Rattle.talk_plan.specs.Timing.{mr_of}
 use Rattle.talk_video.proofs.AccessLemmas.{access_step, unit_known}
 use Rattle.talk_plan.proofs.HeaderLemmas.{header_fits, stamped_at, bytes_size}

@@ -5,7 +5,7 @@ use Rattle.talk_plan.specs.declared.plan.TalkKind.{TalkKind}
 use Rattle.talk_plan.specs.declared.plan.TalkKind.TheVariants.{Aaf, Am824, H264}
 use Rattle.talk_plan.specs.declared.plan.TalkPlan.{TalkPlan}
 use Rattle.talk_audio.specs.Audio.{Audio, audio_by}
-use Rattle.talk_clock.specs.Clock.{clock_arrival, clock_arrival_by}
+use Rattle.talk_clock.specs.Clock.{clock_arrival_by}
 use Rattle.talk_plan.specs.Timing.{arrival_of}
 use Rattle.talk_video.specs.Units.{sent_units}
 use Rattle.talk_video.specs.Video.{video_arrival, video_journal}

@@ -1,5 +1,5 @@
 -- What a talker sends next, before its frame is built.
-use Rattle.std.specs.Prelude.{◌≡◌, ℕ, ◌*◌, ◌^◌, ◌<◌, ◌≤◌, pos, ◌≤ℤ◌, ◌<ℤ◌, List, length, slice_get, option_map, Some}
+use Rattle.std.specs.Prelude.{◌≡◌, ℕ, ◌*◌, ◌^◌, ◌≤◌, pos, ◌≤ℤ◌, ◌<ℤ◌, List, length, slice_get, option_map, Some}
 use Rattle.talker.specs.declared.turn.Turn.{Turn}
 use Rattle.talker.specs.Frames.{SentFrame, frames}
 use Rattle.talker.specs.Talking.{Talking}

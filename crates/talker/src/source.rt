@@ -1,13 +1,10 @@
 //! What makes the packets of a stream.
 
 ghost use Rattle.std.specs.Prelude.{◌≡◌, ◌<◌, ◌≤◌, length, pos, false, Some, None};
-ghost use Rattle.talk_plan.specs.declared.plan.TalkKind.TheVariants.{H264};
-ghost use Rattle.talker.specs.Faults.{fault_of};
-ghost use Rattle.talk_audio.specs.Streams.{IsAudio};
 ghost use Rattle.talk_plan.specs.Ethernet.{packet_bytes};
-ghost use Rattle.talk_plan.specs.Plan.{IsAudioPlan, IsPlan, IsVideoPlan, most_input};
+ghost use Rattle.talk_plan.specs.Plan.{IsPlan, most_input};
 ghost use Rattle.talk_clock.specs.Streams.{IsClockOf};
-ghost use Rattle.talker.specs.state.Talking.{BeginsSource, IsPacketOfSource, IsSource, plan_in, stream_in};
+ghost use Rattle.talker.specs.state.Talking.{BeginsSource, HasPackets, IsPacketOfSource, IsSentFrom, IsSource, plan_in, stream_in};
 ghost use Rattle.talker.specs.state.Turns.{IsTurnOf};
 
 use crate::turn::Turn;
@@ -27,63 +24,33 @@ pub(crate) enum Source<'a> {
     Video(VideoStream<'a>),
 }
 
-/// Why an input makes no audio stream. `Arrival` is never among the reasons, because the packets of every plan arrive
-/// well before the instant 2^32 seconds.
-#[tactic(auto, using(talk_audio::proofs::FormatLemmas::audio_found, crate::proofs::TalkLemmas::none_late), unfolding(crate::specs::Faults::fault_of))]
-fn audio_fault(stream: &AudioStream, input: &[u8]) -> Option<TalkFault>
-    requires stream { IsAudio stream.now }
-    requires limit { length input.now ≤ most_input }
-    ensures { result ≡ fault_of stream.now.plan input.now }
-{
-    if stream.is_whole(input) {
-        None
-    } else {
-        Some(TalkFault::Frames)
-    }
-}
-
 impl<'a> Source<'a> {
     /// The source of a plan and an input. If the plan or the input has a fault, the fault is returned, even if memory
-    /// runs out.
+    /// runs out. For audio, `Arrival` is never the fault, because the packets of every plan arrive well before the
+    /// instant 2^32 seconds.
+    #[tactic(auto, using(talk_audio::proofs::FormatLemmas::audio_found, crate::proofs::TalkLemmas::none_late), unfolding(crate::specs::Faults::fault_of))]
     pub fn of(alloc: Global, plan: TalkPlan, input: &'a [u8]) -> Result<Self, TalkFault>
         requires plan { IsPlan plan }
         requires limit { length input.now ≤ most_input }
         ensures { BeginsSource plan input.now result }
     {
         match plan.kind {
-            TalkKind::H264 { last_stamp } => Source::of_video(alloc, plan, last_stamp, input),
-            TalkKind::Aaf { .. } | TalkKind::Am824 => Source::of_audio(plan, input),
+            TalkKind::H264 { last_stamp } => {
+                if let Some(fault) = units_fault(input) {
+                    return Err(fault);
+                }
+                let stream = VideoStream::of(alloc, plan, last_stamp, input)?;
+                Ok(Source::Video(stream))
+            }
+            TalkKind::Aaf { .. } | TalkKind::Am824 => {
+                let stream = AudioStream::of(plan);
+                if stream.is_whole(input) {
+                    Ok(Source::Audio { stream, input })
+                } else {
+                    Err(TalkFault::Frames)
+                }
+            }
         }
-    }
-
-    fn of_audio(plan: TalkPlan, input: &'a [u8]) -> Result<Self, TalkFault>
-        requires plan { IsAudioPlan plan }
-        requires limit { length input.now ≤ most_input }
-        ensures { BeginsSource plan input.now result }
-    {
-        let stream = AudioStream::of(plan);
-        match audio_fault(&stream, input) {
-            Some(fault) => Err(fault),
-            None => Ok(Source::Audio { stream, input }),
-        }
-    }
-
-    fn of_video(
-        alloc: Global,
-        plan: TalkPlan,
-        last_stamp: bool,
-        input: &'a [u8],
-    ) -> Result<Self, TalkFault>
-        requires plan { IsVideoPlan plan }
-        requires kind { plan.kind ≡ H264 last_stamp }
-        requires limit { length input.now ≤ most_input }
-        ensures { BeginsSource plan input.now result }
-    {
-        if let Some(fault) = units_fault(input) {
-            return Err(fault);
-        }
-        let stream = VideoStream::of(alloc, plan, last_stamp, input)?;
-        Ok(Source::Video(stream))
     }
 
     /// The number of the stream's packets.
@@ -99,8 +66,7 @@ impl<'a> Source<'a> {
 
     /// The media clock of the plan, if the plan has one. The stream has `packets` packets.
     pub fn clock(&self, packets: u64) -> Option<ClockStream>
-        requires source { IsSource self.now }
-        requires packets { packets ≡ (stream_in self.now).journal.times.packets }
+        requires { HasPackets self.now packets }
         ensures { IsClockOf result (plan_in self.now) packets }
     {
         match self {
@@ -150,9 +116,7 @@ impl<'a> Source<'a> {
     /// Writes the frame of packet `n`, which is sent at `arrival`.
     #[inline(always)]
     pub fn write(&self, out: &mut [u8], n: u64, arrival: i64)
-        requires packet { IsPacketOfSource self.now n }
-        requires arrival { arrival ≡ pos ((stream_in self.now).arrival n) }
-        requires room { length out.old ≡ length (packet_bytes ((stream_in self.now).journal.packet n)) }
+        requires { IsSentFrom self.now n arrival out.old }
         ensures { out.new ≡ packet_bytes ((stream_in self.now).journal.packet n) }
     {
         match self {

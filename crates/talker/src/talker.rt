@@ -9,14 +9,15 @@ ghost use Rattle.talker.specs.Frames.{capture_style, clock_frames, frames, recor
 ghost use Rattle.talker.specs.Journal.{stream_of};
 ghost use Rattle.talk_plan.specs.Plan.{IsPlan, most_input};
 ghost use Rattle.talker.specs.Talking.{gone_on};
-ghost use Rattle.talker.specs.state.Talking.{IsClockFirst, IsSource, plan_in, stream_in};
-ghost use Rattle.talk_clock.specs.Streams.{IsClockOf, IsClockStream, clocks_of};
+ghost use Rattle.talker.specs.state.Talking.{IsClockBeside, IsClockFirst, stream_in};
+ghost use Rattle.talk_clock.specs.Streams.{IsClockStream, clocks_of};
 ghost use Rattle.talker.specs.Turns.{IsTurn, frame_in};
-ghost use Rattle.talker.specs.state.Turns.{IsSending, IsTurnOf, SendsPacket, turn_frame};
+ghost use Rattle.talker.specs.state.Turns.{IsLent, IsSending, IsTurnOf, SendsPacket, turn_frame};
 
 use crate::sent::Sent;
 use crate::source::Source;
 use crate::turn::Turn;
+use avtp_base::NoMemory;
 use std::alloc::Global;
 use std::marker::Model;
 use talk_clock::ClockStream;
@@ -92,7 +93,9 @@ impl<'a> Talker<'a> {
         let source = Source::of(alloc, plan, input)?;
         let packets = source.packets();
         let clock = source.clock(packets);
-        let frame = frame_memory(alloc)?;
+        let Ok(frame) = frame_memory(alloc) else {
+            return Err(TalkFault::Memory);
+        };
         Ok(Talker {
             source,
             clock,
@@ -135,9 +138,7 @@ impl<'a> Talker<'a> {
     #[inline(always)]
     fn lend(&mut self, turn: Turn) -> Sent<'_>
         requires { SendsPacket (stream_of self.old.plan self.old.input) turn }
-        ensures frame { sent_frame result ≡ turn_frame (stream_of self.old.plan self.old.input) turn }
-        ensures fits { HasSpelling capture_style (record_of (sent_frame result)) }
-        ensures size { length result.bytes.now ≤ 1518 }
+        ensures lent { IsLent (stream_of self.old.plan self.old.input) turn result }
         ensures* after { sem 𝓛 (EndsAs self.entry (λ last. last ≡ self.old)) }
     {
         write_front(&self.source, &self.clock, turn, self.frame.as_mut_slice());
@@ -233,14 +234,10 @@ fn clock_packets(clock: &Option<ClockStream>) -> u64
 }
 
 /// Memory for the longest frame.
-fn frame_memory(alloc: Global) -> Result<Vec<u8>, TalkFault>
-    ensures room { IfOk result (λ frame. length frame.items ≡ 1518) }
-    ensures only { IfErr result (λ fault. fault ≡ Memory) }
+fn frame_memory(alloc: Global) -> Result<Vec<u8>, NoMemory>
+    ensures { IfOk result (λ frame. length frame.items ≡ 1518) }
 {
-    match vec![in alloc; 0; FRAME_LIMIT] {
-        Ok(frame) => Ok(frame),
-        Err(_) => Err(TalkFault::Memory),
-    }
+    Ok(vec![in alloc; 0; FRAME_LIMIT]?)
 }
 
 /// Writes the frame of a turn.
@@ -277,9 +274,7 @@ fn clock_is_first(
     n: u64,
     packets: u64,
 ) -> bool
-    requires source { IsSource source.now }
-    requires clock { IsClockOf clock.now (plan_in source.now) packets }
-    requires packets { packets ≡ (stream_in source.now).journal.times.packets }
+    requires { IsClockBeside source.now clock.now packets }
     ensures { IsTrue result ↔ IsClockFirst clock.now (stream_in source.now) m n }
 {
     match clock {

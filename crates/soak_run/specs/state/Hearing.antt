@@ -1,6 +1,6 @@
 -- Only private functions and proofs use these definitions. A listener that hears deliveries one by
 -- one, and how far it has come.
-use Rattle.std.specs.Prelude.{◌≡◌, ◌<◌, ℕ, ◌+◌, ◌-◌, ◌^◌, ℤ, Bool, true, false, List, [], ◌∷◌, ◌++◌, length, map, take, Option, Some, None, Result, OnOk, OnErr}
+use Rattle.std.specs.Prelude.{◌≡◌, ◌<◌, ◌≤◌, All, ℕ, ◌+◌, ◌-◌, ◌^◌, ℤ, Bool, true, false, List, [], ◌∷◌, ◌++◌, length, map, take, Option, Some, None, Result, OnOk, OnErr}
 use Rattle.avtp_base.specs.declared.failed.NoMemory.{NoMemory as WantOfMemory}
 use Rattle.time_unfold.specs.Time.{IsArrival}
 use Rattle.pcap_frames.specs.Capture.{Record}
@@ -43,6 +43,11 @@ steps_left stage deliveries given = 0
 pub record IsDeliverable (talker : Talking) (delivery : ℤ × ℕ) : Type 0 where
   pub known : delivery.1 < length (stream_frames talker.plan talker.input)
   pub time : IsArrival delivery.0
+
+-- deliveries of the talker's packets, few enough to be counted
+pub record AreDeliverable (talker : Talking) (deliveries : List (ℤ × ℕ)) : Type 0 where
+  pub deliverable : All (IsDeliverable talker) deliveries
+  pub few : length deliveries ≤ 2 ^ 62
 
 -- the records of the first `given` deliveries of the list
 abbrev pub records_of : Talking → List (ℤ × ℕ) → ℕ → List Record

@@ -8,9 +8,12 @@ use Rattle.aaf_format.specs.Aaf.{frame_size}
 use Rattle.iec61883_format.specs.Iec.{block_size}
 use Rattle.talk_audio.specs.declared.am824.Am824Format.{Am824Format}
 use Rattle.talk_audio.specs.declared.pcm.PcmFormat.{PcmFormat}
-use Rattle.talk_audio.specs.Streams.{IsAm824, IsPcmStream}
+use Rattle.talk_audio.specs.Streams.{IsAm824, IsPcmStream, IsSentOf, headers_of, samples_size}
+use Rattle.talk_audio.specs.declared.audio.AudioStream.{AudioStream}
 use Rattle.talk_plan.specs.declared.plan.TalkPlan.{TalkPlan}
+use Rattle.talk_plan.specs.declared.plan.TalkKind.{TalkKind}
 use Rattle.talk_plan.specs.Places.{IsPacketOf, IsSentAt}
+use Rattle.talk_plan.specs.Plan.{IsAudioPlan}
 
 -- the first four bytes of a packet with this header: its subtype, its flag bits, its sequence number, and whether its
 -- timestamp is uncertain
@@ -23,14 +26,31 @@ abbrev pub patched : List ℕ → ℕ → List ℕ → ℕ → List ℕ
 patched header at part timestamp =
     take at header ++ (part ++ (take (12 - (at + length part)) (drop (at + length part) header) ++ (big_bytes 4 timestamp ++ take 8 (drop 16 header))))
 
--- packet n of a plan of PCM is sent at `arrival`, and `samples` has the length of a packet's samples
-pub record IsPcmPacket (pcm : PcmFormat) (plan : TalkPlan) (n : ℕ) (arrival : ℤ) (samples : List ℕ) : Type 0 where
+-- a valid plan of audio, whose kind is `kind`
+pub record IsPlanWith (plan : TalkPlan) (kind : TalkKind) : Type 0 where
+  pub valid : IsAudioPlan plan
+  pub kind_is : plan.kind ≡ kind
+
+-- Packet n of a plan of PCM is sent at `arrival`. `samples` has the length of a packet's samples, and `out` has the
+-- length of a frame.
+pub record IsPcmPacket (pcm : PcmFormat) (plan : TalkPlan) (n : ℕ) (arrival : ℤ) (samples out : List ℕ) : Type 0 where
   pub format : IsPcmStream pcm plan
   pub sent : IsSentAt plan n arrival
   pub whole : length samples ≡ plan.count * frame_size plan.channels pcm.format
+  pub room : length out ≡ 42 + length samples
 
--- `blocks` is as long as the data blocks of packet n of an AM824 plan
-pub record IsBlockPacket (am824 : Am824Format) (plan : TalkPlan) (n : ℕ) (blocks : List ℕ) : Type 0 where
+-- packet n of a plan of AM824
+pub record IsAm824Packet (am824 : Am824Format) (plan : TalkPlan) (n : ℕ) : Type 0 where
   pub format : IsAm824 am824 plan
   pub packet : IsPacketOf plan n
+
+-- `blocks` is as long as the data blocks of packet n of an AM824 plan, and `out` has the length of a frame
+pub record IsBlockPacket (am824 : Am824Format) (plan : TalkPlan) (n : ℕ) (blocks out : List ℕ) : Type 0 where
+  pub of_plan : IsAm824Packet am824 plan n
   pub whole : length blocks ≡ plan.count * block_size plan.channels
+  pub room : length out ≡ 50 + length blocks
+
+-- packet n of the stream is sent at `arrival`, and `out` has the length of a frame
+pub record IsSentInto (stream : AudioStream) (n : ℕ) (arrival : ℤ) (out : List ℕ) : Type 0 where
+  pub sent : IsSentOf stream n arrival
+  pub room : length out ≡ headers_of stream + samples_size stream

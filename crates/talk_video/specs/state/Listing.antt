@@ -6,7 +6,7 @@ use Rattle.talk_video.specs.declared.units.Units.{Units}
 use Rattle.avtp_base.specs.Octets.{flag}
 use Rattle.talk_video.specs.AccessUnits.{begins, begun_before, has_slice, is_sliced, may_begin}
 use Rattle.talk_video.specs.Fragments.{packets_before, packets_for, Place, place_of}
-use Rattle.talk_video.specs.Streams.{unit_in}
+use Rattle.talk_video.specs.Streams.{IsPacketOfVideo, unit_in}
 use Rattle.talk_video.specs.Units.{most_packets}
 use Rattle.talk_video.specs.declared.video.VideoStream.{VideoStream}
 use Rattle.talk_plan.specs.Plan.{most_input}
@@ -16,8 +16,9 @@ abbrev pub packets_behind : List ℕ → List (ℕ × ℕ) → ℕ → ℕ
 packets_behind bytes units zero = 0
 packets_behind bytes units (suc i) = if begins bytes units i then packets_before units i else packets_behind bytes units i
 
--- the walk `u` has passed the first `u.number` units
+-- the walk `u` has passed the first `u.number` units of a byte stream, which is not too long
 pub record IsWalk (bytes : List ℕ) (u : Units) : Type 0 where
+  pub limit : length bytes ≤ most_input
   pub known : u.number ≤ length (nal_units bytes)
   pub rest : drop u.number (nal_units bytes) ≡ units_from bytes u.at
   pub within : u.at ≤ length bytes
@@ -78,6 +79,7 @@ place_in v n = place_of (nal_units v.input.now) n
 
 -- `unit` is the unit that packet n of the stream carries, whole or in part
 pub record IsUnitAt (v : VideoStream) (n : ℕ) (unit : NalUnit) : Type 0 where
+  pub packet : IsPacketOfVideo v n
   pub value : unit ≡ unit_in v.input.now (place_in v n).unit
   pub carried : IsCarried v.input.now unit n
   pub few : unit.access_unit ≤ most_input

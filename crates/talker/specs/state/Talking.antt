@@ -1,5 +1,5 @@
 -- Only private functions and proofs use these definitions. The source and the clock of a talker.
-use Rattle.std.specs.Prelude.{◌≡◌, ◌⊎◌, ℕ, ◌<◌, ◌≤◌, List, length, Option, Some, None, IfSome, Result, Err, IfErr, IfOk, OnOk}
+use Rattle.std.specs.Prelude.{◌≡◌, ◌⊎◌, ℕ, ℤ, pos, ◌<◌, ◌≤◌, List, length, Option, Some, None, IfSome, Result, Err, IfErr, IfOk, OnOk}
 use Rattle.talk_clock.specs.declared.clock.ClockStream.{ClockStream}
 use Rattle.talk_plan.specs.declared.fault.TalkFault.{TalkFault}
 use Rattle.talk_plan.specs.declared.fault.TalkFault.TheVariants.{Memory}
@@ -9,6 +9,8 @@ use Rattle.talker.specs.declared.source.Source.TheVariants.{Audio as OfAudio, Vi
 use Rattle.talk_clock.specs.Clock.{clock_arrival, clock_packets}
 use Rattle.talker.specs.Faults.{fault_of}
 use Rattle.talker.specs.Journal.{Stream, stream_of}
+use Rattle.talk_clock.specs.Streams.{IsClockOf}
+use Rattle.talk_plan.specs.Ethernet.{packet_bytes}
 use Rattle.talk_plan.specs.Plan.{most_input}
 use Rattle.talk_audio.specs.Streams.{IsAudio}
 use Rattle.talk_video.specs.Streams.{IsVideo}
@@ -53,3 +55,20 @@ pub record BeginsSource (plan : TalkPlan) (input : List ℕ) (result : Result So
 pub record IsPacketOfSource (source : Source) (n : ℕ) : Type 0 where
   pub source_is : IsSource source
   pub known : n < (stream_in source).journal.times.packets
+
+-- packet n of the source's stream is sent at the instant `sent`, and `out` has the length of the packet's frame
+pub record IsSentFrom (source : Source) (n : ℕ) (sent : ℤ) (out : List ℕ) : Type 0 where
+  pub packet : IsPacketOfSource source n
+  pub arrival : sent ≡ pos ((stream_in source).arrival n)
+  pub room : length out ≡ length (packet_bytes ((stream_in source).journal.packet n))
+
+-- the stream of the source `from` has `number` packets
+pub record HasPackets (from : Source) (number : ℕ) : Type 0 where
+  pub source : IsSource from
+  pub packets : number ≡ (stream_in from).journal.times.packets
+
+-- `beside` is the clock of the source `from`, whose stream has `number` packets
+pub record IsClockBeside (from : Source) (beside : Option ClockStream) (number : ℕ) : Type 0 where
+  pub source : IsSource from
+  pub clock : IsClockOf beside (plan_in from) number
+  pub packets : number ≡ (stream_in from).journal.times.packets

@@ -1,8 +1,10 @@
 -- Only private functions and proofs use these definitions. What a talker sends next, before its frame
 -- is built.
-use Rattle.std.specs.Prelude.{◌≡◌, ℕ, ◌<◌, Bool, true, false, Option, length}
+use Rattle.std.specs.Prelude.{◌≡◌, ℕ, ◌<◌, ◌≤◌, Bool, true, false, Option, length}
 use Rattle.talker.specs.declared.turn.Turn.{Turn}
-use Rattle.talker.specs.Frames.{SentFrame, clock_frame_of, frame_of}
+use Rattle.talker.specs.Frames.{SentFrame, capture_style, clock_frame_of, frame_of, record_of, sent_frame}
+use Rattle.talker.specs.declared.sent.Sent.{Sent}
+use Rattle.pcap_frames.specs.Capture.{HasSpelling}
 use Rattle.talker.specs.Journal.{Stream}
 use Rattle.talk_clock.specs.declared.clock.ClockStream.{ClockStream}
 use Rattle.talk_clock.specs.Streams.{IsClockOf}
@@ -41,3 +43,9 @@ pub record IsSending (source : Source) (clock : Option ClockStream) (turn : Turn
   pub source_is : IsSource source
   pub clock_is : IsClockOf clock (plan_in source) (stream_in source).journal.times.packets
   pub sends : SendsPacket (stream_in source) turn
+
+-- the lent frame is the frame of the turn; a capture can record the frame, and it has at most 1518 bytes
+pub record IsLent (s : Stream) (turn : Turn) (sent : Sent) : Type 0 where
+  pub frame : sent_frame sent ≡ turn_frame s turn
+  pub fits : HasSpelling capture_style (record_of (sent_frame sent))
+  pub size : length sent.bytes.now ≤ 1518

@@ -4,14 +4,17 @@ use Rattle.cvf_format.specs.AnnexB.{is_end}
 use Rattle.cvf_format.proofs.PlaceLemmas.{none_more}
 use Rattle.cvf_format.proofs.annex_b.end_of_unit.Goals as goal
 
-pub returns-then-ends_at-clause-value : goal.returns-then-ends_at-clause-value
-returns-then-ends_at-clause-value c =
+pub returns-then-ends_at : goal.returns-then-ends_at
+returns-then-ends_at c =
     let bytes = c.args.bytes.now in
     let found = c.in-Some.ensures {u = tt} in
     let two = found.1 in
     let skipped = end_skipped bytes c.loop-zeros.at c.in-Some.zeros found.0.low (omega arith) (none_ends bytes c.loop-zeros.at c.in-Some.zeros found.0.before) in
     let here = end_there bytes c.in-Some.zeros (omega (arith, two.fits)) (sym c.ends_at.ensures ∙ c.if-ends_at.true) in
-    sym (c.loop-zeros.invariant.same ∙ skipped ∙ here)
+    record {
+      value = sym (c.loop-zeros.invariant.same ∙ skipped ∙ here);
+      range = record { order = omega (arith, found.0.low, c.loop-zeros.invariant.behind); inside = omega (arith, two.fits) };
+    }
 
 pub loop-zeros-preserved : goal.loop-zeros-preserved
 loop-zeros-preserved c =
@@ -25,9 +28,12 @@ loop-zeros-preserved c =
       same = c.loop-zeros.invariant.same ∙ end_skipped bytes c.loop-zeros.at (c.in-Some.zeros + 1) (omega (arith, found.0.low)) (omega (arith, two.fits)) none;
     }
 
-pub returns-clause-value : goal.returns-clause-value
-returns-clause-value c =
+pub returns : goal.returns
+returns c =
     let bytes = c.args.bytes.now in
     let none = c.in_default.ensures {u = tt} in
-    sym (c.loop-zeros.invariant.same ∙ end_none bytes c.loop-zeros.at c.loop-zeros.invariant.within
-    (none_ends bytes c.loop-zeros.at (length bytes) (λ k low high. none k low (omega arith))))
+    record {
+      value = sym (c.loop-zeros.invariant.same ∙ end_none bytes c.loop-zeros.at c.loop-zeros.invariant.within
+          (none_ends bytes c.loop-zeros.at (length bytes) (λ k low high. none k low (omega arith))));
+      range = record { order = c.requires; inside = omega arith };
+    }

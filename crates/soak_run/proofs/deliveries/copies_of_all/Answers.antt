@@ -11,8 +11,8 @@ loop-number-init c = (none-drawn c.args.packets c.new-noise.result (c.new-noise.
 pub loop-number-preserved : goal.loop-number-preserved
 loop-number-preserved c =
     let next : suc c.loop-number.number ≡ c.loop-number.number + 1 = omega arith in (
-      c.in_ok-deliver.ensures.drawn c.args.packets c.loop-number.invariant.0 ∙ ap (λ (n : ℕ). state_after c.args.packets (draws_before c.args.packets n)) next,
-      c.in_ok-deliver.ensures.copied c.args.packets c.loop-number.invariant.0
+      (c.in_ok-deliver.ensures c.args.packets c.loop-number.invariant.0).drawn ∙ ap (λ (n : ℕ). state_after c.args.packets (draws_before c.args.packets n)) next,
+      (c.in_ok-deliver.ensures c.args.packets c.loop-number.invariant.0).copied
           ∙ ap (λ (l : List (ℤ × ℕ)). l ++ copies c.args.packets c.loop-number.number) c.loop-number.invariant.1
           ∙ sym (copies-more c.args.packets c.loop-number.number)
           ∙ ap (λ (n : ℕ). all_copies c.args.packets n) next,

@@ -19,20 +19,14 @@ loop-preserved c = λ seed start.
     (delivering-more seed c.args.number c.loop.counter c.loop.noise c.draw-in-loop.new.self c.copy_arrival-arrival.result c.args.copies.now.items c.loop.copies.items
     (c.loop.invariant seed start) c.draw-in-loop.ensures.state arrival)
 
-pub returns-clause-drawn : goal.returns-clause-drawn
-returns-clause-drawn c = λ seed start.
+pub returns : goal.returns
+returns c = λ seed start.
     let so = c.loop.invariant seed start in
     let done : c.loop.counter ≡ c.copies_drawn-end.result = omega arith in
     let all : c.loop.counter ≡ copies_of seed c.args.number =
     delivering-all seed c.args.number c.loop.counter c.loop.noise c.draw.new.self c.args.noise.now c.args.copies.now.items c.loop.copies.items
-    so start c.draw.ensures.state (done ∙ c.copies_drawn-end.ensures.exact ∙ ap copies_by c.draw.ensures.drawn) in
-    drawn-all seed c.args.number c.loop.counter c.loop.noise c.args.copies.now.items c.loop.copies.items so all
-
-pub returns-clause-copied : goal.returns-clause-copied
-returns-clause-copied c = λ seed start.
-    let so = c.loop.invariant seed start in
-    let done : c.loop.counter ≡ c.copies_drawn-end.result = omega arith in
-    let all : c.loop.counter ≡ copies_of seed c.args.number =
-    delivering-all seed c.args.number c.loop.counter c.loop.noise c.draw.new.self c.args.noise.now c.args.copies.now.items c.loop.copies.items
-    so start c.draw.ensures.state (done ∙ c.copies_drawn-end.ensures.exact ∙ ap copies_by c.draw.ensures.drawn) in
-    copied-all seed c.args.number c.loop.counter c.loop.noise c.args.copies.now.items c.loop.copies.items so all
+    so start c.draw.ensures.state (done ∙ c.copies_drawn-end.ensures ∙ ap copies_by c.draw.ensures.drawn) in
+    record {
+      drawn = drawn-all seed c.args.number c.loop.counter c.loop.noise c.args.copies.now.items c.loop.copies.items so all;
+      copied = copied-all seed c.args.number c.loop.counter c.loop.noise c.args.copies.now.items c.loop.copies.items so all;
+    }

@@ -5,8 +5,8 @@ use Rattle.soak_run.proofs.run.hear.Goals as goal
 pub loop-init : goal.loop-init
 loop-init g c =
     let pipe = c.in_ok-pipe.ensures in
-    let begun = c.in_ok-hearing.ensures.begun in
-    counted_none (length c.args.deliveries.now) c.in_ok-hearing.hearing c.in_ok-pipe.pipe c.of-counts.result begun.0 begun.1 pipe.empty pipe.live pipe.given c.of-counts.ensures
+    let begun = c.in_ok-hearing.ensures in
+    counted_none (length c.args.deliveries.now) c.in_ok-hearing.hearing c.in_ok-pipe.pipe c.of-counts.result begun.stage begun.none pipe.empty pipe.live pipe.given c.of-counts.ensures
 
 pub round-requires-clause-live : goal.round-requires-clause-live
 round-requires-clause-live g c κs within live = sym c.loop.invariant.ends ∙ live

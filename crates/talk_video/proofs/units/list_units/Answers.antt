@@ -18,8 +18,8 @@ loop-unit-preserved c =
       listed = grind (arith, common_steps, listed_more);
     }
 
-pub returns-clause-listed : goal.returns-clause-listed
-returns-clause-listed c = record {
+pub returns : goal.returns
+returns c = record {
   units_are = c.loop-unit.invariant.listed ∙ ap (first_units c.args.bytes.now) c.in_default.ensures.next.all;
   inside = λ i h. c.loop-unit.invariant.inside i (omega (arith, h, c.in_default.ensures.next.all));
   packets_are = c.next.ensures.walk.packets ∙ ap (λ (u : Units). packets_before (nal_units c.args.bytes.now) u.number) c.in_default.ensures.next.same

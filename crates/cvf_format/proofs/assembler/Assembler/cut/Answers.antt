@@ -1,4 +1,4 @@
-use Rattle.std.proofs.Common.{◌≡◌, ◌∙◌, sym, subst, ◌++◌, ◌∷◌, []}
+use Rattle.std.proofs.Common.{◌∙◌, sym, subst, ◌++◌, ◌∷◌, []}
 use Rattle.cvf_format.specs.Stretches.{cut}
 use Rattle.cvf_format.specs.Assembly.{Assembly, StandsFor}
 use Rattle.cvf_format.proofs.AssemblyLemmas.{cut_stands, cut_count}

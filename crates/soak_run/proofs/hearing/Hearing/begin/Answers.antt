@@ -10,15 +10,18 @@ invariant_of-result c = record {
   stands = ∣ (shown_none c.in_ok-listener.listener c.in_ok-listener.ensures.stands).stands ∣₁;
 }
 
-pub returns-clause-begun : goal.returns-clause-begun
-returns-clause-begun c = (
-  refl,
-  record {
+pub returns : goal.returns
+returns c = record {
+  stage = refl;
+  none = record {
     talker = refl;
     deliveries = refl;
     plan = refl;
     shows = shown_none c.in_ok-listener.listener c.in_ok-listener.ensures.stands;
     given_all = λ e. absurd (not_over _ refl e);
     whole = λ e. absurd (not_ended _ refl e);
-  },
-)
+  };
+  plan = c.in_ok-listener.ensures.plan;
+  talker = refl;
+  deliveries = refl;
+}

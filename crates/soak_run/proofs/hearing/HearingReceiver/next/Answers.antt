@@ -70,8 +70,11 @@ invariant_of-self-in_default-stage c =
     let out = c.next_out.ensures in
     record { deliverable = self.deliverable; few = self.few; closed = out.keeps.closed ∙ self.closed; stands = ∥∥₁_map self.stands (stands_on _ (out.stands _)) }
 
-pub go_on-requires-clause-giving : goal.go_on-requires-clause-giving
-go_on-requires-clause-giving c = giving_by c.loop-shown.self.stage c.loop-shown.invariant.going c.in_default-stage.not-Showing
+pub go_on-requires : goal.go_on-requires
+go_on-requires c = record {
+  giving = giving_by c.loop-shown.self.stage c.loop-shown.invariant.going c.in_default-stage.not-Showing;
+  idle = c.in_default.ensures.idle;
+}
 
 pub invariant_of-self-then-is_err : goal.invariant_of-self-then-is_err
 invariant_of-self-then-is_err c =

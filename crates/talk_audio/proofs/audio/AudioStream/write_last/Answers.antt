@@ -11,7 +11,7 @@ returns c =
     ∙ ap (λ (xs : List ℕ). packet_bytes ((audio_of s).packet c.args.n xs))
     (rw (
       c.copy_from_slice.ensures.after,
-      c.requires.sent.audio.size,
+      c.requires.frame.sent.audio.size,
       laid_over (samples_size s) c.args.rest.now c.silence-filled.result
           c.requires.part,
       c.silence-filled.ensures,

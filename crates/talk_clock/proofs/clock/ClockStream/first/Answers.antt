@@ -1,4 +1,4 @@
-use Rattle.std.proofs.Common.{arith}
+use Rattle.std.proofs.Common.{refl, arith}
 use Rattle.talk_clock.proofs.ClockLemmas.{few_points, first_within}
 use Rattle.talk_clock.proofs.clock.ClockStream.first.Goals as goal
 
@@ -9,5 +9,7 @@ overflow_mul-result c =
     let few = few_points clock c.requires.clock in
     rw c.from.ensures (omega (arith, within, few))
 
-pub returns-clause-known : goal.returns-clause-known
-returns-clause-known c = rw c.from.ensures (first_within c.args.self.now c.args.m c.requires.clock c.requires.known)
+pub returns : goal.returns
+returns c =
+    let known = first_within c.args.self.now c.args.m c.requires.clock c.requires.known in
+    rw c.from.ensures (record { value = refl; known = record { clock = c.requires.clock; known = known } })

@@ -11,7 +11,7 @@ pub overflow_add-first : goal.overflow_add-first
 overflow_add-first c =
     let clock = c.args.self.now in
     let few = few_points clock c.requires.packet.clock in
-    omega (arith, few, c.first-first.ensures.known, c.loop-i.invariant.size, c.loop-i-test.true)
+    omega (arith, few, c.first-first.ensures.known.known, c.loop-i.invariant.size, c.loop-i-test.true)
 
 pub loop-i-preserved : goal.loop-i-preserved
 loop-i-preserved c =

@@ -21,7 +21,7 @@ overflow_sub-period c =
     let is = is_beat plan c.args.crf.now c.requires.frame.packet.talked c.requires.clock in
     let more = rising (beat_of c.args.crf.now plan) (m - 1) m is (omega arith) in
     let same = c.spacing-spacing.ensures.value in
-    rw (c.offset.ensures.value, c.offset-offset.ensures.value, same) more
+    rw (c.offset.ensures, c.offset-offset.ensures, same) more
 
 pub returns : goal.returns
 returns c =
@@ -32,6 +32,6 @@ returns c =
     rw c.run_start.ensures.value
     (computed (beat_of crf plan) (run_start plan (run_of plan c.args.n)) (event_of plan c.args.n c.args.i) c.offset-offset.result c.offset.result c.part.result
     late
-    (rw (← c.event-event.ensures.value, ← c.spacing-spacing.ensures.value) c.offset-offset.ensures.value)
-    (rw (← c.event-event.ensures.value, ← c.spacing-spacing.ensures.value) c.offset.ensures.value)
+    (rw (← c.event-event.ensures.value, ← c.spacing-spacing.ensures.value) c.offset-offset.ensures)
+    (rw (← c.event-event.ensures.value, ← c.spacing-spacing.ensures.value) c.offset.ensures)
     (rw (← c.event-event.ensures.value, ← c.spacing-spacing.ensures.value) c.part.ensures.value))

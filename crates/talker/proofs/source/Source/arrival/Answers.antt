@@ -8,8 +8,8 @@ use Rattle.talker.specs.state.Talking.{IsSource, stream_in}
 use Rattle.talker.proofs.SourceLemmas.{audio_few, video_early, video_packets, video_stream_is}
 use Rattle.talker.proofs.source.Source.arrival.Goals as goal
 
-pub arrival-requires-clause-packet : goal.arrival-requires-clause-packet
-arrival-requires-clause-packet c =
+pub arrival-requires : goal.arrival-requires
+arrival-requires c =
     let s = c.in-Audio.stream in
     let is = subst (λ (s : Source). IsSource s) c.in-Audio.is c.requires.source_is in
     let known = subst (λ (s : Source). c.args.n < (stream_in s).journal.times.packets) c.in-Audio.is c.requires.known in

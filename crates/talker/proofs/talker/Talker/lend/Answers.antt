@@ -45,9 +45,11 @@ returns c =
     let size : length (take turn.size c.as_slice.result.now) ≤ 1518 = (let e = ap (λ (xs : List ℕ). length xs) made in omega (arith, e, sends.size, most)) in (
       (refl, (λ _. tt), c.self.view_is),
       record {
-        frame = rw (← c.self.view_is) same;
-        fits = let P : SentFrame → Type 0 = λ f. HasSpelling capture_style (record_of f) in subst P (sym same) (turn_fits (plan_in source) s turn of sends);
-        size = size;
+        lent = record {
+          frame = rw (← c.self.view_is) same;
+          fits = let P : SentFrame → Type 0 = λ f. HasSpelling capture_style (record_of f) in subst P (sym same) (turn_fits (plan_in source) s turn of sends);
+          size = size;
+        };
         after = tt;
       },
     )

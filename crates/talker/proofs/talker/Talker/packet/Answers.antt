@@ -25,9 +25,9 @@ returns c =
     (at_number s c.args.n below) in (
       (refl, (λ _. tt), c.lend.follows.holds-at-none),
       record {
-        frame = rw c.lend.ensures.frame (rw (← c.self.view_is) at);
-        fits = c.lend.ensures.fits;
-        size = c.lend.ensures.size;
+        frame = rw c.lend.ensures.lent.frame (rw (← c.self.view_is) at);
+        fits = c.lend.ensures.lent.fits;
+        size = c.lend.ensures.lent.size;
         after = tt;
       },
     )
