@@ -4,3 +4,4 @@ pub mod Heads
 pub mod Stamps
 pub mod Limits
 pub mod Anchors
+pub mod state

@@ -3,6 +3,7 @@
 ghost use Rattle.std.specs.Prelude.{◌≡◌, ◌≤◌, ◌*◌, All, IfSome};
 ghost use Rattle.time_unfold.specs.Limits.{IsStamp, IsWant};
 ghost use Rattle.time_unfold.specs.Stamps.{IsFound, candidate as candidate_of, find_last, fits as fits_of, found, is_near as is_near_of, last_of};
+ghost use Rattle.time_unfold.specs.state.Trials.{IsTried};
 
 use crate::line::Line;
 use crate::stamp::{Stamp, Want};
@@ -14,8 +15,7 @@ const NANOSECONDS: u64 = 1_000_000_000;
 const REACH: u64 = 60;
 
 fn candidate(stamp: &Stamp, want: &Want) -> i64
-    requires stamp { IsStamp stamp.now }
-    requires want { IsWant want.now }
+    requires { IsTried stamp.now want.now }
     ensures { result ≡ candidate_of want.now stamp.now }
 {
     let line = Line {
@@ -27,8 +27,7 @@ fn candidate(stamp: &Stamp, want: &Want) -> i64
 }
 
 fn is_near(stamp: &Stamp, want: &Want) -> bool
-    requires stamp { IsStamp stamp.now }
-    requires want { IsWant want.now }
+    requires { IsTried stamp.now want.now }
     ensures { result ≡ is_near_of want.now stamp.now }
 {
     let expected = want.arrival + i64::from(want.lead);
@@ -38,8 +37,7 @@ fn is_near(stamp: &Stamp, want: &Want) -> bool
 }
 
 fn fits(stamp: &Stamp, want: &Want) -> bool
-    requires stamp { IsStamp stamp.now }
-    requires want { IsWant want.now }
+    requires { IsTried stamp.now want.now }
     ensures { result ≡ fits_of want.now stamp.now }
 {
     stamp.seq == want.seq

@@ -43,38 +43,6 @@ pub struct Distance {
     pub samples: u32,
 }
 
-fn sparse_distance(seq: u8, count: u32) -> Option<Distance>
-    requires count { count ≤ 65535 }
-    ensures value { result ≡ distance_of HeadRule.Eight seq count }
-    ensures behind { IfSome result (IsBehind count) }
-{
-    let packets = u32::from(seq) % SPARSE;
-    if packets == 0 {
-        return None;
-    }
-    Some(Distance {
-        packets,
-        samples: packets * count,
-    })
-}
-
-fn block_distance(dbc: u8, interval: u32, count: u32) -> Option<Distance>
-    requires rule { IsRule (HeadRule.Blocks dbc interval) }
-    requires some { 1 ≤ count }
-    ensures value { (seq : ℕ) → result ≡ distance_of (HeadRule.Blocks dbc interval) seq count }
-    ensures behind { IfSome result (IsBehind count) }
-{
-    let samples = u32::from(dbc) % interval;
-    if samples == 0 {
-        return None;
-    }
-    let packets = samples.div_ceil(count);
-    if packets > FARTHEST {
-        return None;
-    }
-    Some(Distance { packets, samples })
-}
-
 impl HeadRule {
     /// The timestamp of a packet belongs to one sample. The result is the number of that sample, counted from 0. In AAF
     /// the stamped sample is the first sample (IEEE 1722-2016, 7). In IEC 61883-6 the timestamp belongs to the first
@@ -136,8 +104,27 @@ impl HeadRule {
     {
         match self {
             HeadRule::Own => None,
-            HeadRule::Eight => sparse_distance(seq, count),
-            HeadRule::Blocks { dbc, interval } => block_distance(dbc, interval, count),
+            HeadRule::Eight => {
+                let packets = u32::from(seq) % SPARSE;
+                if packets == 0 {
+                    return None;
+                }
+                Some(Distance {
+                    packets,
+                    samples: packets * count,
+                })
+            }
+            HeadRule::Blocks { dbc, interval } => {
+                let samples = u32::from(dbc) % interval;
+                if samples == 0 {
+                    return None;
+                }
+                let packets = samples.div_ceil(count);
+                if packets > FARTHEST {
+                    return None;
+                }
+                Some(Distance { packets, samples })
+            }
         }
     }
 }
