@@ -14,8 +14,7 @@ use Rattle.clock_track.specs.Examples.{second_pair}
 use Rattle.clock_track.specs.Limits.{IsNotable, IsPoint, IsRow, IsShift, IsSmall}
 use Rattle.clock_track.specs.Pairs.{Covers, IsJoined, covers, is_joined, pull_up}
 use Rattle.clock_track.specs.Rows.{IsLatest, across, inside, joined_by, joined_pairs, latest, pair_of, pairs_at, seems_next, timestamp, timestamps, used}
-use Rattle.clock_track.specs.Search.{IsCovering}
-use Rattle.clock_track.specs.state.Bounds.{IsPair}
+use Rattle.clock_track.specs.Search.{IsCovering, IsPair}
 use Rattle.clock_track.proofs.Lists.{all-joined, all-made, found-in}
 use Rattle.clock_track.proofs.Pairs.{covers_not, covers_so, joins}
 

@@ -1,15 +1,16 @@
 -- Facts about the line that a joined pair gives for an instant that the pair covers.
-use Rattle.std.proofs.Common.{◌≡◌, inl, inr, ℕ, ◌+◌, ◌*◌, ◌^◌, ◌<◌, ◌≤◌, Bool, true, false, ℤ, pos, neg_ℤ, ◌+ℤ◌, ◌-ℤ◌, ◌*ℤ◌, ◌≤ℤ◌, ◌<ℤ◌, refl, ap, arith}
+use Rattle.std.proofs.Common.{◌≡◌, inl, inr, ℕ, ◌+◌, ◌*◌, ◌^◌, ◌<◌, ◌≤◌, Bool, true, false, ℤ, pos, Option, Some, neg_ℤ, ◌+ℤ◌, ◌-ℤ◌, ◌*ℤ◌, ◌≤ℤ◌, ◌<ℤ◌, refl, ap, arith}
 use Rattle.std.specs.Prelude.{◌==◌, if◌then◌else◌}
 use Rattle.std.proofs.Math.Nat.{mul-le-mul_left}
 use Rattle.std.proofs.lemmas.Bool.{cases_lt, eqb-true}
+use Rattle.std.proofs.lemmas.Bool.Decides.{nat_tests}
 use Rattle.std.proofs.lemmas.Int.{ints, by_lt_z}
 use borrow.Author.Differences.{up, down}
 use Rattle.time_unfold.specs.Lines.{floor_of}
 use Rattle.time_unfold.proofs.Floors.{floor_above, floor_below, times_more}
 use Rattle.clock_track.specs.declared.pair.Pair.{Pair}
 use Rattle.clock_track.specs.Limits.{IsClockLine, IsNear, IsSmall}
-use Rattle.clock_track.specs.Pairs.{IsJoined, event_line, nearest_event, nominal, period, spot_by, step_den, step_num}
+use Rattle.clock_track.specs.Pairs.{Covers, IsJoined, Spot, event_line, nearest_event, nominal, period, spot_by, step_den, step_num}
 use Rattle.clock_track.specs.Search.{IsCovering}
 
 -- ---- numbers
@@ -175,6 +176,23 @@ is_event p rate instant some is own =
     let parts = event_by (instant -ℤ p.later) p.interval (period p) rate p.down some is.small.some_down (some_period p is.small is.joined)
     (rw own at is.covers.from) (rw own at is.covers.to) in
     record { from = parts.0; to = parts.1 }
+
+-- a pair that covers an instant is of a stream with some samples
+pub some_rate : (p : Pair) (rate : ℕ) (instant : ℤ) → Covers p rate instant → 1 ≤ rate
+some_rate p rate instant c = elim (cases_lt rate 1) [
+  | inl none ↦ let zero : rate ≡ 0 = omega arith in absurd (let from = rw zero at c.from in let to = rw zero at c.to in omega (arith, ints))
+  | inr some ↦ some
+]
+
+pub own_spot : (p : Pair) (rate : ℕ) (instant base : ℤ) (num den : ℕ) (from : ℤ) → p.up ≡ rate * p.down → base ≡ p.later → num ≡ period p → den ≡ p.interval → from ≡ nearest_event p instant
+    → ◌≡◌ {A = Option Spot} (Some (record { line = record { base = base; num = num; den = den }; from = from })) (Some (spot_by p rate instant))
+own_spot p rate instant base num den from own a b d e = by (p.up == rate * p.down) refl
+  where
+    by : (t : Bool) → (p.up == rate * p.down) ≡ t
+        → ◌≡◌ {A = Option Spot} (Some (record { line = record { base = base; num = num; den = den }; from = from }))
+        (Some (if t then record { line = event_line p; from = nearest_event p instant } else record { line = record { base = instant; num = step_num p; den = step_den p rate }; from = pos 0 }))
+    by true f = rw (a, b, d, e) refl
+    by false f = absurd (grind (arith, nat_tests))
 
 -- ---- all facts together
 

@@ -96,6 +96,10 @@ pairs-none shift row bounds rate lead instant used_rows is has outside =
     ∙ ap (λ (o : Option Pair). option_or o (find_last (test rate instant) xs)) (inside-none shift row bounds rate lead instant 0 (timestamps row - 1) (timestamps row - 1) is has.inside (omega arith) outside)
     ∙ none-found (across shift row) (test rate instant) used_rows (λ before. kept-none (across shift row before) bounds rate lead instant is (across_is shift row before) (has.across before) outside)
 
+pub none-if : (b : Bool) (o : Option Pair) → o ≡ None → None ≡ (if b then o else None)
+none-if true o e = sym e
+none-if false o e = refl
+
 -- ---- bounds that are widened
 
 if-some : (P Q : Pair → Type 0) (o : Option Pair) → ((p : Pair) → P p → Q p) → IfSome o P → IfSome o Q

@@ -15,6 +15,11 @@ pub record IsNear (base instant : ℤ) : Type 0 where
   pub from : (base -ℤ pos (2 ^ 51)) ≤ℤ instant
   pub to : instant ≤ℤ (base +ℤ pos (2 ^ 51))
 
+-- the numerator or the denominator of a pull factor is at least 1 and at most 1,001
+pub record IsFactor (factor : ℕ) : Type 0 where
+  pub some : 1 ≤ factor
+  pub most : factor ≤ 1001
+
 -- the numbers of the pair are within the limits of the format: a base frequency has 29 bits, and an interval has 16
 -- bits
 pub record IsSmall (p : Pair) : Type 0 where

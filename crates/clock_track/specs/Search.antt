@@ -4,6 +4,11 @@ use Rattle.clock_track.specs.declared.pair.Pair.{Pair}
 use Rattle.clock_track.specs.Limits.{IsSmall}
 use Rattle.clock_track.specs.Pairs.{Covers, IsJoined, nominal, step_den}
 
+-- a joined pair with numbers within the limits of the format
+pub record IsPair (pair : Pair) : Type 0 where
+  pub small : IsSmall pair
+  pub joined : IsJoined pair
+
 -- a joined pair that covers the instant, with numbers within the limits of the format
 pub record IsCovering (rate : ℕ) (instant : ℤ) (pair : Pair) : Type 0 where
   pub small : IsSmall pair

@@ -1,8 +1,8 @@
 //! Bounds of the instants that a packet's pairs can cover.
 
 ghost use Rattle.std.specs.Prelude.{IfSome, IsTrue};
-ghost use Rattle.clock_track.specs.declared.pair.Pair.{Pair as PairValue};
-ghost use Rattle.clock_track.specs.state.Bounds.{IsOutside, IsPair, IsWithin, Widens};
+ghost use Rattle.clock_track.specs.Search.{IsPair};
+ghost use Rattle.clock_track.specs.state.Bounds.{AreWidened, IsOutside, Widens};
 
 use crate::pair::Pair;
 
@@ -41,13 +41,13 @@ pub fn widened(bounds: &Bounds, later: i64, end: i64) -> Bounds
 }
 
 /// The bounds, widened to hold `pair` if there is one.
+#[tactic(auto, using(crate::proofs::LineFacts::most_period))]
 pub fn widened_by(bounds: &Bounds, pair: Option<Pair>) -> Bounds
     requires { IfSome pair IsPair }
-    ensures pair { IfSome pair (IsWithin result) }
-    ensures others { (other : PairValue) → IsWithin bounds.now other → IsWithin result other }
+    ensures { AreWidened bounds.now result pair }
 {
     match pair {
-        Some(pair) => widened(bounds, pair.later, pair.end()),
+        Some(pair) => widened(bounds, pair.later, pair.later + pair.period() as i64),
         None => *bounds,
     }
 }

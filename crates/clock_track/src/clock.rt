@@ -1,13 +1,12 @@
 //! A media clock that keeps its last packets.
 
 ghost use Rattle.std.specs.Prelude.{◌≡◌, ◌<◌, ◌≤◌, ◌+◌, ◌++◌, ◌∷◌, [], All, IfOk, IfSome, List, length, map, vec_capacity, vec_len};
-ghost use Rattle.circular_buffer.specs.Buffer.{buffer, keep_last};
 ghost use Rattle.clock_track.specs.declared.clock_row.ClockRow.{ClockRow as ClockRowValue};
 ghost use Rattle.clock_track.specs.Limits.{IsClockLine, IsNotable, IsShift};
 ghost use Rattle.clock_track.specs.Rows.{clock_spot};
 ghost use Rattle.clock_track.specs.Views.{answered, row_of};
 ghost use Rattle.clock_track.specs.Window.{StandsFor};
-ghost use Rattle.clock_track.specs.state.Window.{HasBounds, HoldsRooms, IsKept, IsRoom, kept_row};
+ghost use Rattle.clock_track.specs.state.Window.{HasBounds, HoldsRooms, IsKept, IsRoom, TakesRoom, kept_row};
 
 use crate::answer::ClockAnswer;
 use crate::bounds::Bounds;
@@ -133,9 +132,7 @@ impl Rows for Ring<'_> {
 /// Room for one more packet. If there is no spare room, the oldest packet is dropped and its room is returned.
 fn take_room(rows: &mut HeapCircularBuffer<Kept>, spare: &mut Vec<Room>) -> Room
     requires { HoldsRooms rows.old.items spare.old 64 }
-    ensures result { IsRoom result }
-    ensures rows { rows.new ≡ buffer (keep_last 63 rows.old.items) rows.old.capacity }
-    ensures left { HoldsRooms rows.new.items spare.new 63 }
+    ensures { TakesRoom rows.old rows.new spare.new result }
 {
     if let Some(room) = spare.pop() {
         return room;

@@ -3,7 +3,8 @@
 ghost use Rattle.std.specs.Prelude.{◌≡◌, ◌≤◌, All, IfSome, option_map};
 ghost use Rattle.clock_track.specs.Limits.{IsClockLine, IsNotable, IsShift};
 ghost use Rattle.clock_track.specs.Pairs.{spot_by};
-ghost use Rattle.clock_track.specs.Rows.{clock_spot, latest as latest_of, used, window};
+ghost use Rattle.clock_track.specs.Rows.{clock_spot, latest as latest_of, used};
+ghost use Rattle.clock_track.specs.state.Search.{AreRecent, AreSearched};
 ghost use Rattle.clock_track.specs.Views.{answered};
 
 use crate::answer::ClockAnswer;
@@ -46,8 +47,7 @@ impl Rows for Listed<'_> {
 /// The shortest suffix of `rows` in which 64 rows give points; all rows if fewer than 64 give points.
 fn recent(rows: &[ClockRow]) -> &[ClockRow]
     requires { All IsNotable rows.now }
-    ensures window { used result.now ≡ window rows.now }
-    ensures notable { All IsNotable result.now }
+    ensures { AreRecent rows.now result.now }
 {
     let mut start = rows.len();
     let mut found = 0;
@@ -62,8 +62,7 @@ fn recent(rows: &[ClockRow]) -> &[ClockRow]
 
 /// The line that the packets `rows` give for the instant of `query`.
 pub fn line_among<R: Rows>(rows: &R, query: &Query) -> ClockAnswer
-    requires rows { All IsNotable (R.rows rows.now) }
-    requires bounded { R.bounded rows.now query.now.shift }
+    requires { AreSearched (R.rows rows.now) (R.bounded rows.now) query.now.shift }
     ensures value { answered result ≡ option_map (λ pair. spot_by pair query.now.rate query.now.instant) (latest_of query.now.shift query.now.instant query.now.rate (used (R.rows rows.now))) }
     ensures line { IfSome (answered result) (IsClockLine query.now.rate query.now.instant) }
 {

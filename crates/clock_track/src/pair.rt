@@ -2,9 +2,9 @@
 
 ghost use Rattle.std.specs.Prelude.{Some, ◌≡◌, ◌≤◌, ◌<◌, ◌*◌, ◌^◌, ◌↔◌, pos, ◌-ℤ◌, ◌*ℤ◌, ◌+ℤ◌, IsTrue, ℕ};
 ghost use Rattle.clock_track.specs.Limits.{IsSmall};
-ghost use Rattle.clock_track.specs.Pairs.{Covers, IsJoined, covers as covers_of, is_joined as is_joined_of, nominal as nominal_of, period as period_of, nearest_event as nearest_event_of, spot_by, step_den, step_num as step_num_of};
-ghost use Rattle.clock_track.specs.Search.{IsAfter, IsCovering};
-ghost use Rattle.clock_track.specs.state.Bounds.{IsPair};
+ghost use Rattle.clock_track.specs.Pairs.{covers as covers_of, is_joined as is_joined_of, nominal as nominal_of, period as period_of, spot_by, step_den, step_num as step_num_of};
+ghost use Rattle.clock_track.specs.Search.{IsAfter, IsCovering, IsPair};
+ghost use Rattle.clock_track.specs.state.Numbers.{AreNarrow, IsExact, IsLongest};
 ghost use Rattle.clock_track.specs.Views.{answered};
 
 use crate::answer::ClockAnswer;
@@ -25,8 +25,7 @@ pub struct Pair {
 
 /// Computes `(instant - later) * 2 * den + num`.
 fn scaled(instant: i64, later: i64, num: u64, den: u64) -> i128
-    requires num { num < 2 ^ 60 }
-    requires den { den < 2 ^ 60 }
+    requires { AreNarrow num den }
     ensures { result ≡ (instant -ℤ later) *ℤ pos (2 * den) +ℤ pos num }
 {
     (i128::from(instant) - i128::from(later)) * i128::from(2 * den) + i128::from(num)
@@ -34,8 +33,7 @@ fn scaled(instant: i64, later: i64, num: u64, den: u64) -> i128
 
 /// Computes `2 * period * den`.
 fn doubled(period: u64, den: u64) -> i128
-    requires period { period < 2 ^ 60 }
-    requires den { den < 2 ^ 60 }
+    requires { AreNarrow period den }
     ensures { result ≡ pos (2 * (period * den)) }
 {
     2 * i128::from(period) * i128::from(den)
@@ -43,7 +41,7 @@ fn doubled(period: u64, den: u64) -> i128
 
 impl Pair {
     /// The time from `earlier` to `later`, or 0 if it is negative.
-    fn period(&self) -> u64
+    pub(crate) fn period(&self) -> u64
         requires { IsSmall self.now }
         ensures { result ≡ period_of self.now }
     {
@@ -54,20 +52,10 @@ impl Pair {
         }
     }
 
-    /// The instant that is one period after the later point.
-    #[tactic(auto, using(crate::proofs::LineFacts::most_period))]
-    pub(crate) fn end(&self) -> i64
-        requires { IsPair self.now }
-        ensures { result ≡ self.now.later +ℤ pos (period_of self.now) }
-    {
-        self.later + self.period() as i64
-    }
-
     /// The longest period that a joined pair of this clock can have.
     pub(crate) fn longest_period(&self) -> u64
         requires { IsSmall self.now }
-        ensures value { (d : ℕ) → 8 * (d * self.now.up) ≤ 9 * nominal_of self.now → d ≤ result }
-        ensures within { result < 2 ^ 60 }
+        ensures { IsLongest self.now result }
     {
         9 * self.nominal() / (8 * self.up)
     }
@@ -75,18 +63,15 @@ impl Pair {
     /// The nominal time of the interval in nanoseconds, times `up`.
     fn nominal(&self) -> u64
         requires { IsSmall self.now }
-        ensures value { result ≡ nominal_of self.now }
-        ensures within { result < 2 ^ 56 }
+        ensures { IsExact result (nominal_of self.now) (2 ^ 56) }
     {
         u64::from(self.interval) * NANOSECONDS * self.down
     }
 
     /// Whether the time between the points is within 1/8 of the nominal time of the interval.
-    #[tactic(auto, using(crate::proofs::Pairs::joins))]
     pub fn is_joined(&self) -> bool
         requires { IsSmall self.now }
-        ensures value { result ≡ is_joined_of self.now }
-        ensures joined { IsTrue result → IsJoined self.now }
+        ensures { result ≡ is_joined_of self.now }
     {
         let spacing = 8 * u128::from(self.period()) * u128::from(self.up);
         let nominal = u128::from(self.nominal());
@@ -94,30 +79,24 @@ impl Pair {
     }
 
     fn step_num(&self) -> u64
-        requires small { IsSmall self.now }
-        requires joined { IsJoined self.now }
-        ensures value { result ≡ step_num_of self.now }
-        ensures within { result < 2 ^ 57 }
+        requires { IsPair self.now }
+        ensures { IsExact result (step_num_of self.now) (2 ^ 57) }
     {
         self.period() * self.up
     }
 
     fn step_den(&self, rate: u32) -> u64
         requires { IsSmall self.now }
-        ensures value { result ≡ step_den self.now rate }
-        ensures within { result < 2 ^ 58 }
+        ensures { IsExact result (step_den self.now rate) (2 ^ 58) }
     {
         u64::from(self.interval) * u64::from(rate) * self.down
     }
 
     /// Whether the pair covers an instant, for a stream of this rate. A pair covers the instants of one period. The
     /// period begins half a sample before the pair's later point.
-    #[tactic(auto, using(crate::proofs::Pairs::covers_so))]
     pub fn covers(&self, rate: u32, instant: i64) -> bool
-        requires small { IsSmall self.now }
-        requires joined { IsJoined self.now }
-        ensures value { result ≡ covers_of self.now rate instant }
-        ensures covers { IsTrue result → Covers self.now rate instant }
+        requires { IsPair self.now }
+        ensures { result ≡ covers_of self.now rate instant }
     {
         let den = self.step_den(rate);
         let reach = scaled(instant, self.later, self.step_num(), den);
@@ -134,37 +113,26 @@ impl Pair {
         scaled(instant, self.later, 2 * self.nominal(), self.step_den(rate)) < 0
     }
 
-    /// The number of the clock's event that is nearest to an instant, counted from the later point. The clock's
-    /// frequency must be the stream's rate.
-    fn nearest_event(&self, rate: u32, instant: i64) -> u64
-        requires rate { 1 ≤ rate }
-        requires covering { IsCovering rate instant self.now }
-        requires own { self.now.up ≡ rate * self.now.down }
-        ensures { pos result ≡ nearest_event_of self.now instant }
-    {
-        let period = self.period();
-        let behind = scaled(instant, self.later, period, u64::from(self.interval));
-        // The number is not negative, because the pair covers the instant.
-        behind.div_euclid(i128::from(2 * period)) as u64
-    }
-
     /// A sample has the presentation time `instant`, in a stream of `rate` samples a second. The result is the sample's
     /// line, and the sample's number on that line. The pair must cover the instant. If the clock's frequency is `rate`,
     /// the sample is at the nearest event. If the clock's frequency is not `rate`, the sample is sample 0 of a line
     /// that begins at the instant and has the pair's spacing.
     pub fn answer(&self, rate: u32, instant: i64) -> ClockAnswer
-        requires rate { 1 ≤ rate }
-        requires covering { IsCovering rate instant self.now }
+        requires { IsCovering rate instant self.now }
         ensures { answered result ≡ Some (spot_by self.now rate instant) }
     {
         if self.up == u64::from(rate) * self.down {
+            let period = self.period();
+            let den = u64::from(self.interval);
+            let behind = scaled(instant, self.later, period, den);
             ClockAnswer::OnLine {
                 line: Line {
                     base: self.later,
-                    num: self.period(),
-                    den: u64::from(self.interval),
+                    num: period,
+                    den,
                 },
-                offset: self.nearest_event(rate, instant),
+                // The number is not negative, because the pair covers the instant.
+                offset: behind.div_euclid(i128::from(2 * period)) as u64,
             }
         } else {
             ClockAnswer::OnLine {

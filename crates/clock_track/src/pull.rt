@@ -1,14 +1,14 @@
 //! The pull of a clock: the clock's base frequency is multiplied by this factor.
 
-ghost use Rattle.std.specs.Prelude.{◌≡◌, ◌≤◌};
+ghost use Rattle.std.specs.Prelude.{◌≡◌};
+ghost use Rattle.clock_track.specs.Limits.{IsFactor};
 ghost use Rattle.clock_track.specs.Pairs.{pull_down as pull_down_of, pull_up as pull_up_of};
 
 /// The numerator of the factor that the code `pull` names. The base frequency is multiplied by this factor (IEEE
 /// 1722-2016, 10).
 pub fn pull_up(pull: u8) -> u64
     ensures value { result ≡ pull_up_of pull }
-    ensures some { 1 ≤ result }
-    ensures most { result ≤ 1001 }
+    ensures within { IsFactor result }
 {
     match pull {
         1 => 1000,
@@ -22,8 +22,7 @@ pub fn pull_up(pull: u8) -> u64
 /// The denominator of the factor that the code `pull` names.
 pub fn pull_down(pull: u8) -> u64
     ensures value { result ≡ pull_down_of pull }
-    ensures some { 1 ≤ result }
-    ensures most { result ≤ 1001 }
+    ensures within { IsFactor result }
 {
     match pull {
         1 => 1001,

@@ -1,15 +1,12 @@
 //! The search for the pair of points that covers an instant.
 
-ghost use Rattle.std.specs.Prelude.{IsSome, IsTrue, None, if◌then◌else◌, ◌≡◌, ◌<◌, ◌≤◌, ◌+◌, ◌-◌, ◌*◌, ◌/◌, ◌^◌, ℕ, ℤ, All, IfSome, List, Some, filter, length, slice_get, true};
+ghost use Rattle.std.specs.Prelude.{IsSome, IsTrue, None, if◌then◌else◌, ◌≡◌, ◌<◌, ◌≤◌, ◌+◌, ◌-◌, ◌*◌, ◌/◌, ◌^◌, ℕ, ℤ, IfSome, List, Some, filter, length, slice_get, true};
 ghost use Rattle.std.specs.List.{filter_map, range_with_len};
 ghost use Rattle.time_unfold.specs.Stamps.{find_last};
 ghost use Rattle.clock_track.specs.declared.clock_row.ClockRow.{ClockRow as ClockRowValue};
-ghost use Rattle.clock_track.specs.Limits.{IsNotable, IsSmall};
-ghost use Rattle.clock_track.specs.Pairs.{IsJoined};
-ghost use Rattle.clock_track.specs.Rows.{across as across_rows, inside as inside_row, joined_by, latest as latest_of, pair_of as pair_of_rows, pairs_at, seems_next as seems_next_of, timestamp as timestamp_of, timestamps as timestamps_of, used};
-ghost use Rattle.clock_track.specs.Search.{IsCovering};
-ghost use Rattle.clock_track.specs.state.Bounds.{AreGroups, HasInside, HasPairs, IsOutside, IsPair};
-ghost use Rattle.clock_track.specs.state.Search.{kept, test_of};
+ghost use Rattle.clock_track.specs.Rows.{across as across_rows, inside as inside_row, joined_by, pairs_at, seems_next as seems_next_of, timestamp as timestamp_of, timestamps as timestamps_of, used};
+ghost use Rattle.clock_track.specs.state.Bounds.{AreGroups, EndsGroup, HasInside, HasPairs, IsOutside};
+ghost use Rattle.clock_track.specs.state.Search.{ArePoints, AreSearched, IsJoinedOf, IsLatestOf, IsPairOf, kept, test_of};
 ghost use Rattle.clock_track.specs.Views.{row_of};
 
 use crate::bounds::{Bounds, excludes, no_bounds, widened, widened_by};
@@ -65,10 +62,8 @@ fn timestamp(row: &Points<'_>, i: usize) -> u64
 }
 
 fn pair_of(row: &Usable<'_>, first: u64, second: u64) -> Pair
-    requires first { first < 2 ^ 62 }
-    requires second { second < 2 ^ 62 }
-    ensures value { result ≡ pair_of_rows row.now.shift (row_of row.now.points) first second }
-    ensures small { IsSmall result }
+    requires { ArePoints first second }
+    ensures { IsPairOf row.now.shift (row_of row.now.points) first second result }
 {
     Pair {
         earlier: first as i64 + row.shift,
@@ -80,9 +75,9 @@ fn pair_of(row: &Usable<'_>, first: u64, second: u64) -> Pair
 }
 
 /// The pair of two timestamps, if both are points and the pair is joined.
+#[tactic(auto, using(crate::proofs::Pairs::joins))]
 fn joined(row: &Usable<'_>, first: u64, second: u64) -> Option<Pair>
-    ensures value { result ≡ joined_by row.now.shift (row_of row.now.points) first second }
-    ensures pair { IfSome result IsPair }
+    ensures { IsJoinedOf row.now.shift (row_of row.now.points) first second result }
 {
     if first >= POINTS_END || second >= POINTS_END {
         return None;
@@ -130,8 +125,7 @@ fn bounds_inside(row: &Usable<'_>, first: usize, end: usize) -> Bounds
 /// The index after the last pair of a group, in a packet with this many pairs.
 fn group_end(group: usize, pairs: usize) -> usize
     requires { 32 * group < pairs }
-    ensures within { result ≤ pairs }
-    ensures most { (end : ℕ) → end ≤ 32 * group + 32 → end ≤ pairs → end ≤ result }
+    ensures { EndsGroup group pairs result }
 {
     if pairs - GROUP * group > GROUP {
         GROUP * group + GROUP
@@ -317,29 +311,17 @@ fn latest_across<R: Rows>(rows: &R, row: &Usable<'_>, query: &Query) -> Option<P
     None
 }
 
-/// Whether the instant is known to be outside the bounds of the pairs whose later point is in the packet at index
-/// `place`.
-fn is_outside<R: Rows>(rows: &R, place: usize, query: &Query) -> bool
-    requires bounded { R.bounded rows.now query.now.shift }
-    requires place { place < length (R.rows rows.now) }
-    ensures { IsTrue result → (row : ClockRowValue) (used_rows : List ClockRowValue) → slice_get (R.rows rows.now) place ≡ Some row → find_last (test_of query.now) (pairs_at query.now.shift used_rows row) ≡ None }
-{
-    match rows.bounds(place) {
-        Some(bounds) => excludes(&bounds, query.instant, query.lead),
-        None => false,
-    }
-}
-
 /// The last pair that covers the instant and has its later point in the packet at index `place`. `None` if the packet
 /// gives no points.
 fn latest_at<R: Rows>(rows: &R, place: usize, query: &Query) -> Option<Pair>
-    requires rows { All IsNotable (R.rows rows.now) }
-    requires bounded { R.bounded rows.now query.now.shift }
+    requires searched { AreSearched (R.rows rows.now) (R.bounded rows.now) query.now.shift }
     requires place { place < length (R.rows rows.now) }
     ensures { (row : ClockRowValue) → slice_get (R.rows rows.now) place ≡ Some row → result ≡ (if row.usable then find_last (test_of query.now) (pairs_at query.now.shift (used (R.rows rows.now)) row) else None) }
 {
-    if is_outside(rows, place, query) {
-        return None;
+    if let Some(bounds) = rows.bounds(place) {
+        if excludes(&bounds, query.instant, query.lead) {
+            return None;
+        }
     }
     let points = rows.row(place);
     if !points.usable {
@@ -359,10 +341,8 @@ fn latest_at<R: Rows>(rows: &R, place: usize, query: &Query) -> Option<Pair>
 /// The last joined pair that covers the instant, among the pairs of a clock's packets. The search goes through the
 /// joined pairs from the last to the first, and stops as soon as it finds a pair that covers the instant.
 pub fn latest<R: Rows>(rows: &R, query: &Query) -> Option<Pair>
-    requires rows { All IsNotable (R.rows rows.now) }
-    requires bounded { R.bounded rows.now query.now.shift }
-    ensures value { result ≡ latest_of query.now.shift query.now.instant query.now.rate (used (R.rows rows.now)) }
-    ensures covering { IfSome result (IsCovering query.now.rate query.now.instant) }
+    requires { AreSearched (R.rows rows.now) (R.bounded rows.now) query.now.shift }
+    ensures { IsLatestOf (R.rows rows.now) query.now result }
 {
     let mut left = rows.count();
     while left > 0 {

@@ -1,17 +1,11 @@
 -- Only private functions and proofs use these definitions. Bounds of the instants that a packet's
 -- pairs can cover.
-use Rattle.std.specs.Prelude.{◌≡◌, ◌⊎◌, List, Some, slice_get, ℕ, ◌+◌, ◌-◌, ◌*◌, ◌<◌, ◌≤◌, ℤ, pos, ◌+ℤ◌, ◌≤ℤ◌, ◌<ℤ◌, IfSome}
+use Rattle.std.specs.Prelude.{◌≡◌, ◌⊎◌, List, Option, Some, slice_get, ℕ, ◌+◌, ◌-◌, ◌*◌, ◌<◌, ◌≤◌, ℤ, pos, ◌+ℤ◌, ◌≤ℤ◌, ◌<ℤ◌, IfSome}
 use Rattle.clock_track.specs.declared.bounds.Bounds.{Bounds}
 use Rattle.clock_track.specs.declared.clock_row.ClockRow.{ClockRow}
 use Rattle.clock_track.specs.declared.pair.Pair.{Pair}
-use Rattle.clock_track.specs.Limits.{IsSmall}
-use Rattle.clock_track.specs.Pairs.{IsJoined, period}
+use Rattle.clock_track.specs.Pairs.{period}
 use Rattle.clock_track.specs.Rows.{across, inside, timestamps}
-
--- a joined pair with numbers within the limits of the format
-pub record IsPair (pair : Pair) : Type 0 where
-  pub small : IsSmall pair
-  pub joined : IsJoined pair
 
 -- the pair's later point, and the end of its period, are within the bounds
 pub record IsWithin (bounds : Bounds) (pair : Pair) : Type 0 where
@@ -24,6 +18,11 @@ pub record Widens (old new : Bounds) (later end : ℤ) : Type 0 where
   pub from : new.earliest ≤ℤ later
   pub latest : old.latest ≤ℤ new.latest
   pub to : end ≤ℤ new.latest
+
+-- the bounds `new` hold each pair that `old` holds, and the pair `added` if there is one
+pub record AreWidened (old new : Bounds) (added : Option Pair) : Type 0 where
+  pub pair : IfSome added (IsWithin new)
+  pub others : (other : Pair) → IsWithin old other → IsWithin new other
 
 -- the instant is at or after the end of the bounds, or before their start by more than the lead
 abbrev pub IsOutside : Bounds → ℤ → ℕ → Type 0
@@ -43,6 +42,11 @@ HasInside shift row bounds first end = (i : ℕ) → first ≤ i → i < end →
 -- after the last of `groups` have no bounds.
 abbrev pub AreGroups : ℤ → ClockRow → List Bounds → Type 0
 AreGroups shift row groups = (g : ℕ) (bounds : Bounds) → slice_get groups g ≡ Some bounds → (end : ℕ) → end ≤ 32 * g + 32 → end ≤ timestamps row - 1 → HasInside shift row bounds (32 * g) end
+
+-- `end` is the index after the last pair of a group, in a packet with this many pairs
+pub record EndsGroup (group pairs end : ℕ) : Type 0 where
+  pub within : end ≤ pairs
+  pub most : (other : ℕ) → other ≤ 32 * group + 32 → other ≤ pairs → other ≤ end
 
 -- if the later point of a joined pair is in the packet `row`, the pair is within the bounds
 pub record HasPairs (shift : ℤ) (row : ClockRow) (bounds : Bounds) : Type 0 where

@@ -1,7 +1,7 @@
 -- Only private functions and proofs use these definitions. A clock that keeps its last packets.
 use Rattle.std.specs.Prelude.{◌≡◌, ◌≤◌, ◌+◌, ℕ, ℤ, List, All, length, map, vec_capacity, vec_len}
 use Rattle.std.specs.Global.{Vec}
-use Rattle.circular_buffer.specs.Buffer.{Buffer}
+use Rattle.circular_buffer.specs.Buffer.{Buffer, buffer, keep_last}
 use Rattle.clock_track.specs.declared.clock.Kept.{Kept}
 use Rattle.clock_track.specs.declared.clock.Room.{Room}
 use Rattle.clock_track.specs.declared.clock_row.ClockRow.{ClockRow}
@@ -43,6 +43,12 @@ pub record HoldsRooms (rows : List Kept) (spare : Vec Room) (count : ℕ) : Type
   pub all : length rows + vec_len spare ≡ count
   pub kept : All HasRoom rows
   pub unused : All IsRoom spare.items
+
+-- One room is taken, and the last 63 packets are kept.
+pub record TakesRoom (old new : Buffer Kept) (spare : Vec Room) (room : Room) : Type 0 where
+  pub taken : IsRoom room
+  pub rows : new ≡ buffer (keep_last 63 old.items) old.capacity
+  pub left : HoldsRooms new.items spare 63
 
 -- The kept packets and the spare rooms together number 64. The bounds of each packet hold its pairs.
 pub record IsWindow (shift : ℤ) (rows : Buffer Kept) (spare : Vec Room) : Type 0 where

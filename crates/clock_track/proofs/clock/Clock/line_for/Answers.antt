@@ -18,9 +18,12 @@ returns-clause-value c rows stands =
     let instant : to_z w64 (of_z w64 c.args.instant) ≡ c.args.instant = omega (arith, ints) in
     rw (same, shift, instant, rows_are) at c.line_among.ensures.value
 
-pub line_among-requires-clause-bounded : goal.line_among-requires-clause-bounded
-line_among-requires-clause-bounded c =
+pub line_among-requires : goal.line_among-requires
+line_among-requires c =
     let from = c.self.invariant.1.from in
     let to = c.self.invariant.1.to in
     let same : to_z w64 (of_z w64 c.self.inside.shift) ≡ c.self.inside.shift = omega (arith, ints) in
-    subst (λ (s : ℤ). All (HasBounds s) c.self.inside.rows.items) (sym same) c.self.invariant.0.bounds
+    record {
+      rows = c.self.invariant.0.notable;
+      bounded = subst (λ (s : ℤ). All (HasBounds s) c.self.inside.rows.items) (sym same) c.self.invariant.0.bounds;
+    }
