@@ -4,7 +4,7 @@ use Rattle.std.proofs.lemmas.Int.{ints}
 use Rattle.time_unfold.specs.declared.head_rule.Head.{Head}
 use Rattle.time_unfold.specs.Lines.{floor_of, instant_at}
 use Rattle.clock_track.specs.Pairs.{period, spot_by}
-use Rattle.stream_journal.specs.Clocks.{ClockJournal, Follows, IsNext, IsPlace, Place, pair_at, point}
+use Rattle.stream_journal.specs.Clocks.{ClockJournal, Follows, InOneRun, IsJoinedAt, IsNext, IsPlace, Place, pair_at, point}
 use Rattle.stream_journal.specs.Journal.{head_of, nominal_instant}
 use Rattle.stream_journal.specs.Conforming.{AgreesWithClock, Conforms, IsAudio, IsClock, IsCovered}
 use Rattle.stream_journal.specs.Examples.{clocked}
@@ -57,6 +57,10 @@ clock_is base from to = record {
     most = most_by base (period (pair_at (clock base) p q)) to (even base p q f);
   };
 }
+
+-- two adjacent points are joined
+pub joined_is : (base : ℕ) → 42000 ≤ base → base ≤ 54000 → (p q : Place) → Follows (clock base) p q → InOneRun (clock base) p q → IsJoinedAt (clock base) p q
+joined_is base from to p q f o = record { follows = f; one_run = o; joined = (clock_is base from to).even p q f o }
 
 -- ---- the timestamps
 
@@ -179,11 +183,18 @@ conforms base from to = record {
 }
 
 -- the second point follows the first
-first_two : (base : ℕ) → Follows (clock base) (at_place 0 0) (at_place 0 1)
+pub first_two : (base : ℕ) → Follows (clock base) (at_place 0 0) (at_place 0 1)
 first_two base = record {
   first = record { packet = omega arith; at = omega arith };
   second = record { packet = omega arith; at = omega arith };
   next = inl (refl, refl);
+}
+
+pub second_two : (base : ℕ) → Follows (clock base) (at_place 0 1) (at_place 1 0)
+second_two base = record {
+  first = record { packet = omega arith; at = omega arith };
+  second = record { packet = omega arith; at = omega arith };
+  next = inr (refl, refl, refl);
 }
 
 within : (base : ℕ) → Conforms (clocked base) → (42000 ≤ base) × (base ≤ 54000)

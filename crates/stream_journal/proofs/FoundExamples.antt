@@ -16,6 +16,7 @@ use Rattle.time_unfold.specs.declared.head_rule.Head.{Head}
 use Rattle.stream_journal.specs.Journal.{head_of}
 use Rattle.stream_journal.specs.Known.{IsCoveredBy, IsKnown}
 use Rattle.stream_journal.specs.Heads.{IsTrue, IsUnstamped, stamp_at}
+use Rattle.stream_journal.proofs.Clocked.{second_two}
 use Rattle.stream_journal.proofs.RestartedCopies.{no_stamp}
 
 -- ---- stamps
@@ -81,11 +82,7 @@ rows_true =
 
 pub two_at_hand : ArePointsAtHand (clocked 48000).clock (pos 0) two_rows (record { packet = 0; at = 1 }) (record { packet = 1; at = 0 })
 two_at_hand = record {
-  follows = record {
-    first = record { packet = omega arith; at = omega arith };
-    second = record { packet = omega arith; at = omega arith };
-    next = inr (refl, refl, refl);
-  };
+  follows = second_two 48000;
   one_run = refl;
   earlier = omega (arith, ints);
   later = omega (arith, ints);

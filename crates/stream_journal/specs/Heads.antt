@@ -1,9 +1,10 @@
 -- The stamps that a listener notes for copies, and the stamps that a listener searches for.
-use Rattle.std.specs.Prelude.{◌≡◌, ◌≢◌, ℕ, ◌+◌, ◌-◌, ◌*◌, ◌/◌, ◌%◌, ◌<◌, ◌≤◌, ◌⊎◌, pos, Some, None}
+use Rattle.std.specs.Prelude.{◌≡◌, ◌≢◌, ℕ, ◌+◌, ◌-◌, ◌*◌, ◌/◌, ◌%◌, ◌<◌, ◌≤◌, ◌⊎◌, pos, List, Some, None, IfSome}
 use Rattle.time_unfold.specs.declared.head_rule.Distance.{Distance}
 use Rattle.time_unfold.specs.declared.stamp.Stamp.{Stamp}
 use Rattle.time_unfold.specs.declared.stamp.Want.{Want}
 use Rattle.time_unfold.specs.Heads.{counted_block, distance, stamped_block}
+use Rattle.time_unfold.specs.Stamps.{found}
 use Rattle.stream_journal.specs.Journal.{Journal, head_of, rule_of}
 use Rattle.stream_journal.specs.Delivered.{Copy, IsDelivered}
 
@@ -77,3 +78,10 @@ AreApart j times x y = IsFarther j times x y ⊎ IsFarther j times y x
 -- Packet n is counted from this stamp: the packet's first sample is `far.samples` samples after the stamp's instant.
 abbrev pub IsCountedFrom : Journal → ℕ → Distance → Stamp → Type 0
 IsCountedFrom j n far stamp = head_of j n ≡ Some (record { instant = stamp.instant; first = pos far.samples })
+
+-- Some stamps are searched for a packet without a timestamp, and the stamp that is found is the packet's head. The packet
+-- is counted from that stamp. If the packet has no head, nothing is found.
+pub record FindsHead (j : Journal) (lead room : ℕ) (c : Copy) (far : Distance) (stamps : List Stamp) : Type 0 where
+  pub stamp : IfSome (found room (wanted j lead c far) stamps) (IsHeadOf j c.number far)
+  pub head : IfSome (found room (wanted j lead c far) stamps) (IsCountedFrom j c.number far)
+  pub none : head_of j c.number ≡ None → found room (wanted j lead c far) stamps ≡ None

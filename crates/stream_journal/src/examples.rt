@@ -1,20 +1,15 @@
 //! Small journals, and whether they keep the rules. Each call only states its contract, and does nothing.
 
-ghost use Rattle.std.specs.Prelude.{All, false, replicate, ◌≡◌, ◌↔◌, true, ◌≤◌, ℕ, neg_ℤ, pos, [], ◌∷◌, Some, None};
+ghost use Rattle.std.specs.Prelude.{false, replicate, ◌≡◌, ◌↔◌, true, ◌≤◌, ℕ, neg_ℤ, pos, [], ◌∷◌, Some, None};
 ghost use Rattle.time_unfold.specs.Stamps.{found};
-ghost use Rattle.clock_track.specs.Pairs.{Covers};
 ghost use Rattle.clock_track.specs.Rows.{clock_spot};
 ghost use Rattle.stream_journal.specs.Conforming.{AgreesWithClock, Conforms};
 ghost use Rattle.stream_journal.specs.Regular.{IsRegularClock};
 ghost use Rattle.stream_journal.specs.Delivered.{AreDelivered};
 ghost use Rattle.stream_journal.specs.Examples.{came, clocked, each_eighth, each_sixteenth, one_access_unit, overlapped, pulled, restarted, restarted_copies, sixteenth_copies, three_packets, unsteady, video};
-ghost use Rattle.stream_journal.specs.Clocks.{pair_at};
-ghost use Rattle.stream_journal.specs.ClockRows.{IsTrueRow};
-ghost use Rattle.stream_journal.specs.Found.{IsAtHand, IsExpected};
-ghost use Rattle.stream_journal.specs.FoundExamples.{followed_stamps, one_back, two_rows};
-ghost use Rattle.stream_journal.specs.FoundLines.{ArePointsAtHand};
+ghost use Rattle.stream_journal.specs.FoundExamples.{HasHeadAtHand, HasPointsAtHand, HasRestartedHeads, followed_stamps, one_back, two_rows};
 ghost use Rattle.stream_journal.specs.Known.{IsKnown};
-ghost use Rattle.stream_journal.specs.Heads.{IsTrue, IsUnstamped, stamp_at, wanted};
+ghost use Rattle.stream_journal.specs.Heads.{stamp_at, wanted};
 ghost use Rattle.stream_journal.specs.Journal.{IsAt, head_of};
 
 /// Three packets of 6 samples at 48 kHz take 125,000 ns each. The talker keeps the rules if and only if adjacent
@@ -33,9 +28,7 @@ pub fn restarted_copies_are_delivered()
 /// packet 16. Packets 10 to 15 have no head, because the restart is between them and packet 8.
 pub fn restarted_talker_conforms()
     ensures conforms { Conforms restarted }
-    ensures before { head_of restarted 9 ≡ Some (record { instant = pos 1003000000; first = pos 6 }) }
-    ensures between { (n : ℕ) → 10 ≤ n → n ≤ 15 → head_of restarted n ≡ None }
-    ensures behind { head_of restarted 17 ≡ Some (record { instant = pos 1005000000; first = pos 6 }) }
+    ensures heads { HasRestartedHeads }
 {}
 
 /// Talkers of AM824 with 6 blocks in a packet keep the rules. At 48 kHz, packet 2 is counted from its own block 4.
@@ -94,10 +87,7 @@ pub fn video_talker_conforms()
 /// while this stamp is among the last 16 stamps, that is, while at most 15 other stamps arrived after the stamp of
 /// packet 8.
 pub fn heads_are_at_hand()
-    ensures unstamped { IsUnstamped restarted 2000000 (came 9 1001125000) one_back }
-    ensures expected { IsExpected restarted 2000000 (came 9 1001125000) }
-    ensures all_true { (others : ℕ) → All (IsTrue restarted) (followed_stamps others) }
-    ensures at_hand { IsAtHand restarted 16 9 one_back (followed_stamps 15) (stamp_at restarted 8 1003000000) }
+    ensures at_hand { HasHeadAtHand }
     ensures last { found 16 (wanted restarted 2000000 (came 9 1001125000) one_back) (followed_stamps 15) ≡ Some (stamp_at restarted 8 1003000000) }
     ensures dropped { found 16 (wanted restarted 2000000 (came 9 1001125000) one_back) (followed_stamps 16) ≡ None }
 {}
@@ -105,9 +95,7 @@ pub fn heads_are_at_hand()
 /// A talker sends a clock with a stream of 48 kHz. If a listener has both packets of the clock, the listener has the
 /// points that cover packet 33.
 pub fn points_are_at_hand()
-    ensures all_true { All (IsTrueRow (clocked 48000).clock (pos 0)) two_rows }
-    ensures at_hand { ArePointsAtHand (clocked 48000).clock (pos 0) two_rows (record { packet = 0; at = 1 }) (record { packet = 1; at = 0 }) }
-    ensures covers { Covers (pair_at (clocked 48000).clock (record { packet = 0; at = 1 }) (record { packet = 1; at = 0 })) 48000 (pos 1006125000) }
+    ensures at_hand { HasPointsAtHand }
     ensures found { clock_spot two_rows (pos 0) (pos 1006125000) 48000 ≡ Some (record { line = record { base = pos 1006000000; num = 2000000; den = 96 }; from = pos 6 }) }
 {}
 

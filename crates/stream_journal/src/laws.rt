@@ -19,7 +19,7 @@ ghost use Rattle.stream_journal.specs.Delivered.{Copy, IsAudioKind, IsDelivered}
 ghost use Rattle.stream_journal.specs.Near.{IsNear};
 ghost use Rattle.stream_journal.specs.Found.{IsAtHand, IsExpected};
 ghost use Rattle.stream_journal.specs.FoundLines.{ArePointsAtHand};
-ghost use Rattle.stream_journal.specs.Heads.{AreApart, IsCountedFrom, IsHeadOf, IsOther, IsStampOf, IsTrue, IsUnstamped, behind, wanted};
+ghost use Rattle.stream_journal.specs.Heads.{AreApart, FindsHead, IsOther, IsStampOf, IsTrue, IsUnstamped, behind, wanted};
 
 /// A copy's timestamp is an instant modulo 2^32. Unfolding this timestamp gives the instant that the talker sent.
 pub fn timestamps_are_true()
@@ -55,9 +55,7 @@ pub fn other_stamps_are_refused()
 /// finds a head for a packet, this head is the packet's head in the journal. If the packet has no head in the journal,
 /// a listener finds none.
 pub fn heads_are_true()
-    ensures stamp { (j : Journal) (lead room : ℕ) (c : Copy) (far : Distance) (stamps : List Stamp) → IsAudio j → IsUnstamped j lead c far → All (IsTrue j) stamps → IfSome (found room (wanted j lead c far) stamps) (IsHeadOf j c.number far) }
-    ensures head { (j : Journal) (lead room : ℕ) (c : Copy) (far : Distance) (stamps : List Stamp) → IsAudio j → IsUnstamped j lead c far → All (IsTrue j) stamps → IfSome (found room (wanted j lead c far) stamps) (IsCountedFrom j c.number far) }
-    ensures none { (j : Journal) (lead room : ℕ) (c : Copy) (far : Distance) (stamps : List Stamp) → IsAudio j → IsUnstamped j lead c far → All (IsTrue j) stamps → head_of j c.number ≡ None → found room (wanted j lead c far) stamps ≡ None }
+    ensures { (j : Journal) (lead room : ℕ) (c : Copy) (far : Distance) (stamps : List Stamp) → IsAudio j → IsUnstamped j lead c far → All (IsTrue j) stamps → FindsHead j lead room c far stamps }
 {}
 
 /// A sample of a conforming talker has at most one instant with the clock, and at most one without it.

@@ -1,4 +1,6 @@
-use Rattle.std.proofs.Common.{inl, inr, refl, pos, arith}
+use Rattle.std.proofs.Common.{refl, pos, arith}
+use Rattle.stream_journal.proofs.Clocked.{first_two, joined_is, second_two}
+use Rattle.stream_journal.proofs.TrueClock.{at_place}
 use Rattle.stream_journal.proofs.examples.samples_are_clocked.Goals as goal
 
 pub returns-clause-own : goal.returns-clause-own
@@ -7,15 +9,7 @@ returns-clause-own c = record {
   is_head = refl;
   earlier = record { packet = 0; at = 1 };
   later = record { packet = 1; at = 0 };
-  joined = record {
-    follows = record {
-      first = record { packet = omega arith; at = omega arith };
-      second = record { packet = omega arith; at = omega arith };
-      next = inr (refl, refl, refl);
-    };
-    one_run = refl;
-    joined = record { least = omega arith; most = omega arith };
-  };
+  joined = joined_is 48000 (omega arith) (omega arith) (at_place 0 1) (at_place 1 0) (second_two 48000) refl;
   covers = record { from = omega arith; to = omega arith };
   at = refl;
 }
@@ -26,15 +20,7 @@ returns-clause-other c = record {
   is_head = refl;
   earlier = record { packet = 0; at = 1 };
   later = record { packet = 1; at = 0 };
-  joined = record {
-    follows = record {
-      first = record { packet = omega arith; at = omega arith };
-      second = record { packet = omega arith; at = omega arith };
-      next = inr (refl, refl, refl);
-    };
-    one_run = refl;
-    joined = record { least = omega arith; most = omega arith };
-  };
+  joined = joined_is 44100 (omega arith) (omega arith) (at_place 0 1) (at_place 1 0) (second_two 44100) refl;
   covers = record { from = omega arith; to = omega arith };
   at = refl;
 }
@@ -45,15 +31,7 @@ returns-clause-first c = record {
   is_head = refl;
   earlier = record { packet = 0; at = 0 };
   later = record { packet = 0; at = 1 };
-  joined = record {
-    follows = record {
-      first = record { packet = omega arith; at = omega arith };
-      second = record { packet = omega arith; at = omega arith };
-      next = inl (refl, refl);
-    };
-    one_run = refl;
-    joined = record { least = omega arith; most = omega arith };
-  };
+  joined = joined_is 44100 (omega arith) (omega arith) (at_place 0 0) (at_place 0 1) (first_two 44100) refl;
   covers = record { from = omega arith; to = omega arith };
   at = refl;
 }
@@ -64,15 +42,7 @@ returns-clause-next c = record {
   is_head = refl;
   earlier = record { packet = 0; at = 0 };
   later = record { packet = 0; at = 1 };
-  joined = record {
-    follows = record {
-      first = record { packet = omega arith; at = omega arith };
-      second = record { packet = omega arith; at = omega arith };
-      next = inl (refl, refl);
-    };
-    one_run = refl;
-    joined = record { least = omega arith; most = omega arith };
-  };
+  joined = joined_is 44100 (omega arith) (omega arith) (at_place 0 0) (at_place 0 1) (first_two 44100) refl;
   covers = record { from = omega arith; to = omega arith };
   at = refl;
 }
