@@ -73,19 +73,12 @@ three_stand bytes at c two more third = record {
 }
 
 two_of_three : (bytes : List ℕ) (at c : ℕ) → OccursAt bytes (0 ∷ 0 ∷ c ∷ []) at → OccursAt bytes (0 ∷ 0 ∷ []) at
-two_of_three bytes at c o = record {
-  fits = omega (arith, o.fits);
-  reads =
-      let first = o.reads 0 (omega arith) in
-      let second = o.reads 1 (omega arith) in
-      two_read bytes at first second;
-}
+two_of_three bytes at c o = record { fits = omega (arith, o.fits); reads = read }
   where
-    two_read : (bytes : List ℕ) (at : ℕ) → get_or bytes (at + 0) 0 ≡ 0 → get_or bytes (at + 1) 0 ≡ 0
-        → (j : ℕ) → j < 2 → get_or bytes (at + j) 0 ≡ get_or (0 ∷ 0 ∷ []) j 0
-    two_read bytes at p q zero lt = p
-    two_read bytes at p q (suc zero) lt = q
-    two_read bytes at p q (suc (suc j)) lt = absurd (omega arith)
+    read : (j : ℕ) → j < 2 → get_or bytes (at + j) 0 ≡ get_or (0 ∷ 0 ∷ []) j 0
+    read zero lt = o.reads 0 (omega arith)
+    read (suc zero) lt = o.reads 1 (omega arith)
+    read (suc (suc j)) lt = absurd (omega arith)
 
 -- if two zero bytes are followed by a byte that is at most 1, a unit ends before the two zero bytes
 third_ends : (bytes : List ℕ) (at : ℕ) → OccursAt bytes (0 ∷ 0 ∷ []) at → at + 2 < length bytes → get_or bytes (at + 2) 0 ≤ 1 → is_end bytes at ≡ true

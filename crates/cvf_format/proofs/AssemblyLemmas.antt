@@ -1,20 +1,22 @@
 -- What an assembler keeps after one more packet or one more cut.
 use Rattle.std.proofs.Common.{◌≡◌, ℕ, suc, ◌+◌, ◌%◌, ◌<◌, ◌≤◌, ◌==◌, Bool, true, false, inl, inr, ℤ, List, [], ◌∷◌, ◌++◌, length, Option, None, Some, refl, sym, ap, subst, ◌∙◌, arith, length-append}
 use Rattle.std.specs.Prelude.{◌&&◌, not, nat_le, nat_lt, if◌then◌else◌, map}
-use Rattle.std.proofs.lemmas.List.{map-append, length-map}
+use Rattle.std.proofs.lemmas.List.{append-nil, map-append, length-map}
 use Rattle.std.proofs.lemmas.Bool.Decides.{leb_tells}
+use Rattle.std.specs.Option.{option_or}
 use Rattle.std.proofs.Math.Dec.{eqb-suc-zero}
 use Rattle.std.proofs.Math.Bool.{and-false}
 use Rattle.cvf_format.specs.declared.cvf.NalPart.{NalPart}
 use Rattle.cvf_format.specs.declared.cvf.NalPart.TheVariants.{Single, First, Middle, Last}
 use Rattle.cvf_format.specs.declared.piece.Mark.{Mark}
+use Rattle.cvf_format.specs.declared.piece.Lost.{Lost}
 use Rattle.cvf_format.specs.declared.piece.Lost.TheVariants.{Broken, Long}
 use Rattle.cvf_format.specs.declared.piece.Pushed.{Pushed}
 use Rattle.cvf_format.specs.declared.piece.Piece.TheVariants as variant
 use Rattle.cvf_format.specs.Stretches.{Fragment, Event, packet, cut, begins, goes_on, completes, stamps, last_stretch, unit_of, longest_unit, most_fragments, is_within, is_complete, before_last, waiting, piece_of, is_joined, given_up, reason_of, whole_of, whole_unit, mark_of, sequence_numbers}
-use Rattle.cvf_format.specs.Assembly.{Assembly, Keeps, KeepsAll, StandsFor, first_stamp, last_of, shown_unit, longest_body}
-use Rattle.cvf_format.specs.state.Assembly.{IsPushed, agree, goes_on_here, has_room, gave_up, or_first, with_first, with_next, settled, lost_for}
-use Rattle.cvf_format.proofs.StretchLemmas.{and_left, and_right, continues, step, last_packet, last_cut, before_more, complete_more, complete_one, complete_last, unit_more, last_more, append_none, stamps_more}
+use Rattle.cvf_format.specs.Assembly.{Assembly, Cuts, Keeps, KeepsAll, Pushes, StandsFor, first_stamp, last_of, shown_unit, longest_body}
+use Rattle.cvf_format.specs.state.Assembly.{IsPushed, Leaves, agree, goes_on_here, has_room, gave_up, with_first, with_next, settled, lost_for}
+use Rattle.cvf_format.proofs.StretchLemmas.{and_left, and_right, continues, step, last_packet, last_cut, before_more, complete_more, complete_one, complete_last, unit_more, last_more, stamps_more}
 
 -- ---- what the assembler keeps
 
@@ -37,22 +39,16 @@ pub record Answers (pushed : Pushed) (before after : List Fragment) : Type 0 whe
   pub why : pushed.why ≡ reason_of after
   pub piece : pushed.piece ≡ piece_of after
 
-none_within : is_within [] ≡ true
-unfolding is_within
-none_within = refl
-
-none_open : is_complete [] ≡ false
-unfolding is_complete
-none_open = refl
-
 pub waits_none : waiting [] ≡ []
-waits_none = rw (none_within, none_open) refl
+unfolding is_within is_complete
+waits_none = refl
 
 pub joined_none : is_joined [] ≡ false
 joined_none = refl
 
 whole_none : whole_of [] ≡ []
-whole_none = rw (none_within, none_open) refl
+unfolding is_within is_complete
+whole_none = refl
 
 pub stands_none : (a : Assembly) → a.held ≡ [] → a.lost ≡ [] → a.whole ≡ false → StandsFor a []
 unfolding last_stretch before_last
@@ -96,49 +92,32 @@ stays_long g gs f e = by (is_within (g ∷ (gs ++ f ∷ []))) refl
 
 -- ---- what is returned for a stretch that is empty, too long or within the limits
 
--- What follows if a stretch is empty, or exceeds the limits even without its last packet. No packet waits, and the
--- newest packet is lost as `Broken`.
-record Overlong (r : List Fragment) : Type 0 where
+-- What follows if a stretch is empty, or its last packet is lost for the reason `why`. No packet waits.
+record IsLost (why : Lost) (r : List Fragment) : Type 0 where
   waits : waiting r ≡ []
   apart : is_joined r ≡ false
   unit : whole_of r ≡ []
-  why : reason_of r ≡ Broken
-  piece : piece_of r ≡ variant.Lost Broken
+  reason : reason_of r ≡ why
+  piece : piece_of r ≡ variant.Lost why
 
-overlong_none : Overlong []
-overlong_none = record { waits = waits_none; apart = joined_none; unit = whole_none; why = refl; piece = refl }
+none_lost : IsLost Broken []
+none_lost = record { waits = waits_none; apart = joined_none; unit = whole_none; reason = refl; piece = refl }
 
-overlong : (g : Fragment) (gs : List Fragment) (f : Fragment) → is_within (g ∷ gs) ≡ false → Overlong (g ∷ (gs ++ f ∷ []))
-overlong g gs f e =
-    let long = stays_long g gs f e in
+-- the reason is `Long` if the stretch exceeds the limits only because of its last packet, and otherwise `Broken`
+lost_so : (b : Bool) (g : Fragment) (gs : List Fragment) (f : Fragment) → is_within (g ∷ gs) ≡ b → is_within (g ∷ (gs ++ f ∷ [])) ≡ false → IsLost (if b then Long else Broken) (g ∷ (gs ++ f ∷ []))
+lost_so b g gs f e long =
     let front : before_last (g ∷ (gs ++ f ∷ [])) ≡ g ∷ gs = before_more (g ∷ gs) f in
     record {
       waits = rw long refl;
       apart = rw long (and-false (nat_lt 1 (length (g ∷ (gs ++ f ∷ [])))));
       unit = rw long refl;
-      why = rw (long, front, e) refl;
-      piece = rw (long, front, e) refl;
+      reason = rw (long, front, e) refl;
+      piece = rw (long, front, e) (lost_if b);
     }
-
--- What follows if a stretch exceeds the limits only because of its last packet. No packet waits, and the last packet is
--- lost as `Long`.
-record JustLong (r : List Fragment) : Type 0 where
-  waits : waiting r ≡ []
-  apart : is_joined r ≡ false
-  unit : whole_of r ≡ []
-  why : reason_of r ≡ Long
-  piece : piece_of r ≡ variant.Lost Long
-
-just_long : (g : Fragment) (gs : List Fragment) (f : Fragment) → is_within (g ∷ gs) ≡ true → is_within (g ∷ (gs ++ f ∷ [])) ≡ false → JustLong (g ∷ (gs ++ f ∷ []))
-just_long g gs f e long =
-    let front : before_last (g ∷ (gs ++ f ∷ [])) ≡ g ∷ gs = before_more (g ∷ gs) f in
-    record {
-      waits = rw long refl;
-      apart = rw long (and-false (nat_lt 1 (length (g ∷ (gs ++ f ∷ [])))));
-      unit = rw long refl;
-      why = rw (long, front, e) refl;
-      piece = rw (long, front, e) refl;
-    }
+  where
+    lost_if : (b : Bool) → (if b then variant.Lost Long else variant.Lost Broken) ≡ variant.Lost (if b then Long else Broken)
+    lost_if true = refl
+    lost_if false = refl
 
 -- if the last packet did not join the waiting packets, the last packet gave up all of them
 gives_all : (a : Assembly) (before after : List Fragment) → KeepsAll a (waiting before) → is_joined after ≡ false → a.held ≡ map mark_of (lost_of before after)
@@ -149,33 +128,18 @@ gives_count a before after k e = ap length (gives_all a before after k e) ∙ le
 
 -- ---- a packet that does not continue the waiting unit
 
-lost_left : (a : Assembly) (before after : List Fragment) → KeepsAll a (waiting before) → Overlong after → Left (gave_up a) before after
-lost_left a before after k o = record {
+lost_left : (a : Assembly) (why : Lost) (before after : List Fragment) → KeepsAll a (waiting before) → IsLost why after → Left (gave_up a) before after
+lost_left a why before after k o = record {
   waits = subst (λ (r : List Fragment). KeepsAll (gave_up a) r) (sym o.waits) refl;
   lost = gives_all a before after k o.apart;
   unit = sym o.unit;
 }
 
-lost_answers : (a : Assembly) (before after : List Fragment) → KeepsAll a (waiting before) → Overlong after
-    → Answers (record { lost = length a.held; why = Broken; piece = variant.Lost Broken }) before after
-lost_answers a before after k o = record {
+lost_answers : (a : Assembly) (why : Lost) (before after : List Fragment) → KeepsAll a (waiting before) → IsLost why after
+    → Answers (record { lost = length a.held; why = why; piece = variant.Lost why }) before after
+lost_answers a why before after k o = record {
   lost = gives_count a before after k o.apart;
-  why = sym o.why;
-  piece = sym o.piece;
-}
-
-long_left : (a : Assembly) (before after : List Fragment) → KeepsAll a (waiting before) → JustLong after → Left (gave_up a) before after
-long_left a before after k o = record {
-  waits = subst (λ (r : List Fragment). KeepsAll (gave_up a) r) (sym o.waits) refl;
-  lost = gives_all a before after k o.apart;
-  unit = sym o.unit;
-}
-
-long_answers : (a : Assembly) (before after : List Fragment) → KeepsAll a (waiting before) → JustLong after
-    → Answers (record { lost = length a.held; why = Long; piece = variant.Lost Long }) before after
-long_answers a before after k o = record {
-  lost = gives_count a before after k o.apart;
-  why = sym o.why;
+  why = sym o.reason;
   piece = sym o.piece;
 }
 
@@ -195,7 +159,7 @@ step_begins [] f e = rw e refl
 step_begins (g ∷ gs) f e = rw (not_continued g gs f (begins_not_goes f.part e), e) refl
 
 one_within : (f : Fragment) → length f.body ≤ longest_body → is_within (f ∷ []) ≡ true
-one_within f e = within_so (f ∷ []) (omega (arith, ap length (append_none f.body))) (lit f)
+one_within f e = within_so (f ∷ []) (omega (arith, ap length (append-nil f.body))) (lit f)
   where
     lit : (f : Fragment) → length (f ∷ []) ≤ most_fragments
     lit f = omega arith
@@ -214,12 +178,12 @@ begun_left a before f k few = by (completes f.part) refl
     by true e = record {
       waits = rw (within, complete_one f, e) refl;
       lost = keeps_marks a (waiting before) k;
-      unit = rw (within, complete_one f, e) (ap (λ (b : List ℕ). f.nal ∷ b) (sym (append_none f.body)));
+      unit = rw (within, complete_one f, e) (ap (λ (b : List ℕ). f.nal ∷ b) (sym (append-nil f.body)));
     }
     by false e = record {
       waits = rw (within, complete_one f, e) (record {
         marks = refl;
-        bytes = ap (λ (b : List ℕ). f.nal ∷ b) (sym (append_none f.body));
+        bytes = ap (λ (b : List ℕ). f.nal ∷ b) (sym (append-nil f.body));
         nal = refl;
         next_seq = refl;
         instant = first_one f f.instant refl;
@@ -240,17 +204,17 @@ begun_answers a before f k few =
 
 -- ---- a packet that continues the waiting unit
 
-first_more : (ts us : List ℤ) → first_stamp (ts ++ us) ≡ or_first (first_stamp ts) (first_stamp us)
+first_more : (ts us : List ℤ) → first_stamp (ts ++ us) ≡ option_or (first_stamp ts) (first_stamp us)
 first_more [] us = refl
 first_more (t ∷ ts) us = refl
 
 next_stamp : (a : Assembly) (g : Fragment) (gs : List Fragment) (f : Fragment) → Keeps a g gs
-    → or_first a.instant f.instant ≡ first_stamp (stamps (g ∷ (gs ++ f ∷ [])))
+    → option_or a.instant f.instant ≡ first_stamp (stamps (g ∷ (gs ++ f ∷ [])))
 next_stamp a g gs f k =
     let more : first_stamp (stamps (g ∷ (gs ++ f ∷ []))) ≡ first_stamp (stamps (g ∷ gs) ++ stamps (f ∷ [])) = ap first_stamp (stamps_more (g ∷ gs) f) in
-    let apart : first_stamp (stamps (g ∷ gs) ++ stamps (f ∷ [])) ≡ or_first (first_stamp (stamps (g ∷ gs))) (first_stamp (stamps (f ∷ []))) = first_more (stamps (g ∷ gs)) (stamps (f ∷ [])) in
-    ap (λ (t : Option ℤ). or_first t f.instant) k.instant
-    ∙ ap (λ (t : Option ℤ). or_first (first_stamp (stamps (g ∷ gs))) t) (first_one f f.instant refl)
+    let apart : first_stamp (stamps (g ∷ gs) ++ stamps (f ∷ [])) ≡ option_or (first_stamp (stamps (g ∷ gs))) (first_stamp (stamps (f ∷ []))) = first_more (stamps (g ∷ gs)) (stamps (f ∷ [])) in
+    ap (λ (t : Option ℤ). option_or t f.instant) k.instant
+    ∙ ap (λ (t : Option ℤ). option_or (first_stamp (stamps (g ∷ gs))) t) (first_one f f.instant refl)
     ∙ sym (more ∙ apart)
 
 pub some_more : (g : Fragment) (gs : List Fragment) (f : Fragment) → nat_lt 1 (length (g ∷ (gs ++ f ∷ []))) ≡ true
@@ -366,13 +330,13 @@ waits_here a (g ∷ gs) f k here = by (is_within (g ∷ gs)) (is_complete (g ∷
         }
 
 -- if a packet neither begins a unit nor continues the waiting unit, no stretch within the limits ends with it
-nothing_here : (a : Assembly) (r : List Fragment) (f : Fragment) → KeepsAll a (waiting r) → begins f.part ≡ false → goes_on_here a f ≡ false → Overlong (step r f)
-nothing_here a [] f k e here = rw e overlong_none
+nothing_here : (a : Assembly) (r : List Fragment) (f : Fragment) → KeepsAll a (waiting r) → begins f.part ≡ false → goes_on_here a f ≡ false → IsLost Broken (step r f)
+nothing_here a [] f k e here = rw e none_lost
 nothing_here a (g ∷ gs) f k e here = by (is_within (g ∷ gs)) (is_complete (g ∷ gs)) (continues g gs f) refl refl refl
   where
-    by : (w c n : Bool) → is_within (g ∷ gs) ≡ w → is_complete (g ∷ gs) ≡ c → continues g gs f ≡ n → Overlong (step (g ∷ gs) f)
-    by w c false p q m = rw (m, e) overlong_none
-    by false c true p q m = rw m (overlong g gs f p)
+    by : (w c n : Bool) → is_within (g ∷ gs) ≡ w → is_complete (g ∷ gs) ≡ c → continues g gs f ≡ n → IsLost Broken (step (g ∷ gs) f)
+    by w c false p q m = rw (m, e) none_lost
+    by false c true p q m = rw m (lost_so false g gs f p (stays_long g gs f p))
     by true true true p q m =
         let ended : completes (last_of g gs).part ≡ true = sym (complete_last g gs) ∙ q in
         let not : continues g gs f ≡ false = rw ended refl in
@@ -385,24 +349,20 @@ nothing_here a (g ∷ gs) f k e here = by (is_within (g ∷ gs)) (is_complete (g
 
 -- ---- the events
 
-stands_packet : (a : Assembly) (events : List Event) (f : Fragment) → Left a (last_stretch events) (step (last_stretch events) f) → StandsFor a (events ++ packet f ∷ [])
-stands_packet a events f l =
-    let here = last_packet events f in
-    let front = before_more events (packet f) in
-    record {
-      waits = subst (λ (r : List Fragment). KeepsAll a (waiting r)) (sym here) l.waits;
-      lost = rw (here, front) (l.lost);
-      unit = rw here (l.unit);
-    }
+stands_after : (a : Assembly) (events : List Event) (event : Event) (after : List Fragment) → last_stretch (events ++ event ∷ []) ≡ after → Left a (last_stretch events) after → StandsFor a (events ++ event ∷ [])
+stands_after a events event after here l = record {
+  waits = subst (λ (r : List Fragment). KeepsAll a (waiting r)) (sym here) l.waits;
+  lost = rw (here, before_more events event) (l.lost);
+  unit = rw here (l.unit);
+}
 
 pushed_by : (a : Assembly) (pushed : Pushed) (events : List Event) (f : Fragment) → Left a (last_stretch events) (step (last_stretch events) f)
     → Answers pushed (last_stretch events) (step (last_stretch events) f) → IsPushed a (events ++ packet f ∷ []) pushed
 pushed_by a pushed events f l p =
     let here = last_packet events f in
-    let front = before_more events (packet f) in
     record {
-      stands = stands_packet a events f l;
-      lost = rw (here, front) (p.lost);
+      stands = stands_after a events (packet f) _ here l;
+      lost = rw (here, before_more events (packet f)) (p.lost);
       why = rw here (p.why);
       piece = rw here (p.piece);
     }
@@ -421,7 +381,7 @@ pub pushed_apart : (a : Assembly) (events : List Event) (f : Fragment) → begin
 pushed_apart a events f rest here s =
     let r : List Fragment = last_stretch events in
     let after = nothing_here a r f s.waits rest here in
-    pushed_by _ _ events f (lost_left a r (step r f) s.waits after) (lost_answers a r (step r f) s.waits after)
+    pushed_by _ _ events f (lost_left a Broken r (step r f) s.waits after) (lost_answers a Broken r (step r f) s.waits after)
 
 step_here : (r : List Fragment) (g : Fragment) (gs : List Fragment) (f : Fragment) → r ≡ g ∷ gs → continues g gs f ≡ true → step r f ≡ g ∷ (gs ++ f ∷ [])
 step_here r g gs f is goes = rw (is, goes) refl
@@ -432,9 +392,9 @@ pushed_long a events f here room s =
     let r : List Fragment = last_stretch events in
     let w = waits_here a r f s.waits here in
     let same = step_here r w.first w.rest f w.is w.goes in
-    let long : JustLong (w.first ∷ (w.rest ++ f ∷ [])) = just_long w.first w.rest f w.within (sym (room_is a w.first w.rest f w.keeps) ∙ room) in
-    let after : JustLong (step r f) = subst (λ (after : List Fragment). JustLong after) (sym same) long in
-    pushed_by _ _ events f (long_left a r (step r f) s.waits after) (long_answers a r (step r f) s.waits after)
+    let long : IsLost Long (w.first ∷ (w.rest ++ f ∷ [])) = lost_so true w.first w.rest f w.within (sym (room_is a w.first w.rest f w.keeps) ∙ room) in
+    let after : IsLost Long (step r f) = subst (λ (after : List Fragment). IsLost Long after) (sym same) long in
+    pushed_by _ _ events f (lost_left a Long r (step r f) s.waits after) (lost_answers a Long r (step r f) s.waits after)
 
 next_from : (a : Assembly) (events : List Event) (f : Fragment) (g : Fragment) (gs : List Fragment) → last_stretch events ≡ g ∷ gs → Keeps a g gs
     → continues g gs f ≡ true → is_within (g ∷ (gs ++ f ∷ [])) ≡ true
@@ -451,23 +411,23 @@ pushed_next a events f here room s =
     let w = waits_here a (last_stretch events) f s.waits here in
     next_from a events f w.first w.rest w.is w.keeps w.goes (sym (room_is a w.first w.rest f w.keeps) ∙ room)
 
-pub same_pushed : (a b : Assembly) (events : List Event) (p q : Pushed) → a ≡ b → p ≡ q → IsPushed b events q → IsPushed a events p
-same_pushed a b events p q same answers is =
-    subst (λ (x : Assembly). IsPushed x events p) (sym same) (subst (λ (x : Pushed). IsPushed b events x) (sym answers) is)
+-- a packet was pushed, if this is so whatever events came before
+pub pushes : (old new after : Assembly) (f : Fragment) (result answer : Pushed) → Leaves new after result answer → answer.lost ≡ length after.lost
+    → ((events : List Event) → StandsFor old events → IsPushed after (events ++ packet f ∷ []) answer) → Pushes old new f result
+pushes old new after f result answer l marks is =
+    subst (λ (a : Assembly). Pushes old a f result) (sym l.left) (subst (λ (p : Pushed). Pushes old after f p) (sym l.returned) (record {
+      stands = λ events s. (is events s).stands;
+      lost = λ events s. (is events s).lost;
+      why = λ events s. (is events s).why;
+      marks = marks;
+      piece = λ events s. (is events s).piece;
+    }))
 
 pub unit_shown : (a : Assembly) (events : List Event) (bytes : List ℕ) → StandsFor a events → bytes ≡ shown_unit a → bytes ≡ whole_unit events
 unit_shown a events bytes s e = e ∙ s.unit
 
 pub cut_stands : (a : Assembly) (events : List Event) → StandsFor a events → StandsFor (gave_up a) (events ++ cut ∷ [])
-cut_stands a events s =
-    let here = last_cut events in
-    let front = before_more events cut in
-    let l = lost_left a (last_stretch events) [] s.waits overlong_none in
-    record {
-      waits = subst (λ (r : List Fragment). KeepsAll (gave_up a) (waiting r)) (sym here) l.waits;
-      lost = rw (here, front) (l.lost);
-      unit = rw here (l.unit);
-    }
+cut_stands a events s = stands_after (gave_up a) events cut [] (last_cut events) (lost_left a Broken (last_stretch events) [] s.waits none_lost)
 
 pub cut_count : (a : Assembly) (events : List Event) → StandsFor a events → length a.held ≡ length (given_up (events ++ cut ∷ []))
 cut_count a events s =

@@ -130,29 +130,21 @@ accepted_so bytes e =
 -- ---- the part and the first byte of a NAL unit
 
 -- the packet's part of a NAL unit determines two things: the bits S and E, and whether the packet's type is FU-A
-single_bits : (fragment start end : Bool) → cond fragment (fragment_of start end) Single ≡ Single → fragment ≡ false
-single_bits false start end e = refl
-single_bits true true end e = absurd cc
-single_bits true false true e = absurd cc
-single_bits true false false e = absurd cc
+abbrev AreBits : NalPart → Bool → Bool → Bool → Type 0
+AreBits Single fragment start end = fragment ≡ false
+AreBits First fragment start end = (fragment ≡ true) × (start ≡ true)
+AreBits Middle fragment start end = (fragment ≡ true) × (start ≡ false) × (end ≡ false)
+AreBits Last fragment start end = (fragment ≡ true) × (start ≡ false) × (end ≡ true)
 
-first_bits : (fragment start end : Bool) → cond fragment (fragment_of start end) Single ≡ First → (fragment ≡ true) × (start ≡ true)
-first_bits false start end e = absurd cc
-first_bits true true end e = (refl, refl)
-first_bits true false true e = absurd cc
-first_bits true false false e = absurd cc
+bits_of : (fragment start end : Bool) → AreBits (cond fragment (fragment_of start end) Single) fragment start end
+bits_of false start end = refl
+bits_of true true end = (refl, refl)
+bits_of true false true = (refl, refl, refl)
+bits_of true false false = (refl, refl, refl)
 
-middle_bits : (fragment start end : Bool) → cond fragment (fragment_of start end) Single ≡ Middle → (fragment ≡ true) × (start ≡ false) × (end ≡ false)
-middle_bits false start end e = absurd cc
-middle_bits true true end e = absurd cc
-middle_bits true false true e = absurd cc
-middle_bits true false false e = (refl, refl, refl)
-
-last_bits : (fragment start end : Bool) → cond fragment (fragment_of start end) Single ≡ Last → (fragment ≡ true) × (start ≡ false) × (end ≡ true)
-last_bits false start end e = absurd cc
-last_bits true true end e = absurd cc
-last_bits true false true e = (refl, refl, refl)
-last_bits true false false e = absurd cc
+part_bits : (bytes : List ℕ) (part : NalPart) → part_of bytes ≡ part → AreBits part (is_fragment bytes) (is_set 29 0 bytes) (is_set 29 1 bytes)
+part_bits bytes part is =
+    subst (λ (p : NalPart). AreBits p (is_fragment bytes) (is_set 29 0 bytes) (is_set 29 1 bytes)) is (bits_of (is_fragment bytes) (is_set 29 0 bytes) (is_set 29 1 bytes))
 
 not_fu_a : (type : ℕ) → is_single_type type ≡ true → eqb type fu_a ≡ false
 not_fu_a type single = unequal type fu_a (λ e. let there : is_single_type fu_a ≡ true = subst (λ (t : ℕ). is_single_type t ≡ true) e single in absurd cc)
@@ -188,7 +180,7 @@ fragment_spelled part bytes known is fragment start end shared =
 nal_spelled : (part : NalPart) (bytes : List ℕ) → Accepted bytes → part_of bytes ≡ part → Shared (cvf_of bytes) bytes
     → Spells (layout_of part) (cvf_of bytes) bytes
 nal_spelled Single bytes known is shared =
-    let fragment = single_bits (is_fragment bytes) (is_set 29 0 bytes) (is_set 29 1 bytes) is in
+    let fragment = part_bits bytes Single is in
     let below = bits-below 28 3 5 bytes in
     let nal = nal_single bytes fragment in
     spells_shared single_headers (cvf_of bytes) bytes shared (
@@ -199,13 +191,13 @@ nal_spelled Single bytes known is shared =
       tt,
     )
 nal_spelled First bytes known is shared =
-    let b = first_bits (is_fragment bytes) (is_set 29 0 bytes) (is_set 29 1 bytes) is in
+    let b = part_bits bytes First is in
     fragment_spelled First bytes known is b.0 b.1 (known.not_both b.0 b.1) shared
 nal_spelled Middle bytes known is shared =
-    let b = middle_bits (is_fragment bytes) (is_set 29 0 bytes) (is_set 29 1 bytes) is in
+    let b = part_bits bytes Middle is in
     fragment_spelled Middle bytes known is b.0 b.1 b.2 shared
 nal_spelled Last bytes known is shared =
-    let b = last_bits (is_fragment bytes) (is_set 29 0 bytes) (is_set 29 1 bytes) is in
+    let b = part_bits bytes Last is in
     fragment_spelled Last bytes known is b.0 b.1 b.2 shared
 
 -- the type of the NAL unit in accepted bytes is 1 to 23
@@ -318,11 +310,18 @@ single_laid = (refl, refl, (refl, refl, (refl, refl, (refl, refl, (refl, refl, (
 fragment_laid : IsLaid 0 (cvf_layout fragment_headers)
 fragment_laid = (refl, refl, (refl, refl, (refl, refl, (refl, refl, (refl, refl, (refl, refl, (refl, refl, (refl, refl, (refl, refl, (refl, refl, (refl, refl, (refl, refl, (refl, refl, (refl, refl, (refl, refl, tt)))))))))))))))
 
-cvf_laid : (part : NalPart) → IsLaid 0 (layout_of part)
-cvf_laid Single = single_laid
-cvf_laid First = fragment_laid
-cvf_laid Middle = fragment_laid
-cvf_laid Last = fragment_laid
+-- what is known of the table of each kind of packet
+record IsTable (part : NalPart) : Type 0 where
+  laid : IsLaid 0 (layout_of part)
+  told : is_told (layout_of part) ≡ true
+  size : layout_size (layout_of part) ≡ header_size part
+  some : 29 ≤ header_size part
+
+table : (part : NalPart) → IsTable part
+table Single = record { laid = single_laid; told = refl; size = refl; some = omega arith }
+table First = record { laid = fragment_laid; told = refl; size = refl; some = omega arith }
+table Middle = record { laid = fragment_laid; told = refl; size = refl; some = omega arith }
+table Last = record { laid = fragment_laid; told = refl; size = refl; some = omega arith }
 
 pub length_of_headers : (part : NalPart) (v : Cvf) → length (spelling (layout_of part) v) ≡ header_size part
 length_of_headers Single v = refl
@@ -367,17 +366,11 @@ headers_accepted First v bytes is single long h = fragment_accepted First v byte
 headers_accepted Middle v bytes is single long h = fragment_accepted Middle v bytes is refl single (omega arith) h
 headers_accepted Last v bytes is single long h = fragment_accepted Last v bytes is refl single (omega arith) h
 
-headers_some : (part : NalPart) → 29 ≤ header_size part
-headers_some Single = omega arith
-headers_some First = omega arith
-headers_some Middle = omega arith
-headers_some Last = omega arith
-
 accepted_again : (bytes : List ℕ) (v : Cvf) → IsWritableCvf v → Shared (plain_cvf v) bytes → Spells (headers_of v.part) (plain_cvf v) bytes
     → 24 + v.header.data_length ≤ length bytes → cvf_refusal bytes ≡ None
 accepted_again bytes v whole s h long =
     let stated : bits 20 0 16 bytes ≡ v.header.data_length = s.stated in
-    let some = headers_some v.part in
+    let some = (table v.part).some in
     let start = header_whole (length bytes) (omega arith) in
     let shared : first_row (subtype_row cvf_subtype bytes ∷ version_row bytes ∷ []) ≡ None =
     passed_rows (subtype_row cvf_subtype bytes ∷ version_row bytes ∷ [])
@@ -414,7 +407,7 @@ cvf_again v rest whole fits =
     let head : List ℕ = spelling (layout_of v.part) v in
     let bytes : List ℕ = head ++ (v.body ++ rest) in
     let regrouped : cvf_spelling v ++ rest ≡ bytes = append_assoc head v.body rest in
-    let f : Holds (layout_of v.part) v bytes = holds_spelled (layout_of v.part) v 0 [] (v.body ++ rest) refl (cvf_laid v.part) fits in
+    let f : Holds (layout_of v.part) v bytes = holds_spelled (layout_of v.part) v 0 [] (v.body ++ rest) refl ((table v.part).laid) fits in
     let size = length_of_headers v.part v in
     let long : 24 + v.header.data_length ≤ length bytes =
     omega (arith, length-append head (v.body ++ rest), length-append v.body rest, whole.data_length) in
@@ -424,27 +417,15 @@ cvf_again v rest whole fits =
 
 -- ---- if bytes set no reserved bit and end with their packet, they are the packet's `cvf_spelling`
 
-all_told : (part : NalPart) → is_told (layout_of part) ≡ true
-all_told Single = refl
-all_told First = refl
-all_told Middle = refl
-all_told Last = refl
-
-size_of_headers : (part : NalPart) → layout_size (layout_of part) ≡ header_size part
-size_of_headers Single = refl
-size_of_headers First = refl
-size_of_headers Middle = refl
-size_of_headers Last = refl
-
 pub cvf_only : (bytes : List ℕ) (v : Cvf) → AreBytes bytes → SpellsCvf bytes v → v.reserved ≡ false → length bytes ≡ 24 + v.header.data_length
     → bytes ≡ cvf_spelling v
 cvf_only bytes v fits s plain len =
     let size : ℕ = header_size v.part in
-    let h = spelled_holds (layout_of v.part) v bytes (all_told v.part) s.fields (sym s.reserved ∙ plain) in
+    let h = spelled_holds (layout_of v.part) v bytes ((table v.part).told) s.fields (sym s.reserved ∙ plain) in
     let known = accepted_so bytes s.accepted in
     let same : v.header.data_length ≡ bits 20 0 16 bytes = sym (shared_so (headers_of v.part) v bytes s.fields).stated in
     let part = (named v.part v bytes refl s.fields s.type).part_is in
     let within : size ≤ 24 + v.header.data_length = rw (part, same) (known.within) in
     let body : v.body ≡ drop size bytes = s.body ∙ take_all (24 + v.header.data_length - size) (drop size bytes) (omega (arith, length-drop size bytes)) in
-    only_spelling (layout_of v.part) v bytes size (cvf_laid v.part) (size_of_headers v.part) fits (omega arith) h
+    only_spelling (layout_of v.part) v bytes size ((table v.part).laid) ((table v.part).size) fits (omega arith) h
     ∙ ap (λ (xs : List ℕ). spelling (layout_of v.part) v ++ xs) (sym body)

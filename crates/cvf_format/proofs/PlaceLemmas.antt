@@ -9,15 +9,19 @@ use Rattle.std.specs.List.{range_with_len, last_or}
 abbrev pub NonePasses : (ℕ → Bool) → ℕ → ℕ → Type 0
 NonePasses test low high = (k : ℕ) → low ≤ k → k < high → test k ≡ false
 
-pub filter_skip : (test : ℕ → Bool) (m n a b : ℕ) → a + m ≡ b → NonePasses test a b → filter test (range_with_len a (m + n)) ≡ filter test (range_with_len b n)
-filter_skip test zero n a b e none =
+-- a function of a list passes over indexes that fail the test, if it passes over one
+passed : {R : Type 0} (F : List ℕ → R) (test : ℕ → Bool) → ((x : ℕ) (xs : List ℕ) → test x ≡ false → F (x ∷ xs) ≡ F xs) → (m n a b : ℕ) → a + m ≡ b → NonePasses test a b
+    → F (range_with_len a (m + n)) ≡ F (range_with_len b n)
+passed F test over zero n a b e none =
     let count : 0 + n ≡ n = omega arith in
     let place : a ≡ b = omega arith in
     rw (count, place) refl
-filter_skip test (suc m) n a b e none =
+passed F test over (suc m) n a b e none =
     let count : suc m + n ≡ suc (m + n) = omega arith in
-    let here : test a ≡ false = none a (omega arith) (omega arith) in
-    rw (count, here) (filter_skip test m n (a + 1) b (omega arith) (λ k low high. none k (omega arith) high))
+    rw count (over a (range_with_len (a + 1) (m + n)) (none a (omega arith) (omega arith)) ∙ passed F test over m n (a + 1) b (omega arith) (λ k low high. none k (omega arith) high))
+
+pub filter_skip : (test : ℕ → Bool) (m n a b : ℕ) → a + m ≡ b → NonePasses test a b → filter test (range_with_len a (m + n)) ≡ filter test (range_with_len b n)
+filter_skip test = passed (filter test) test (λ x xs e. rw e refl)
 
 pub filter_none : (test : ℕ → Bool) (n a : ℕ) → NonePasses test a (a + n) → filter test (range_with_len a n) ≡ []
 filter_none test n a none =
@@ -28,14 +32,7 @@ pub filter_there : (test : ℕ → Bool) (n a : ℕ) → test a ≡ true → fil
 filter_there test n a passes = rw passes refl
 
 pub find_skip : (test : ℕ → Bool) (m n a b : ℕ) → a + m ≡ b → NonePasses test a b → find test (range_with_len a (m + n)) ≡ find test (range_with_len b n)
-find_skip test zero n a b e none =
-    let count : 0 + n ≡ n = omega arith in
-    let place : a ≡ b = omega arith in
-    rw (count, place) refl
-find_skip test (suc m) n a b e none =
-    let count : suc m + n ≡ suc (m + n) = omega arith in
-    let here : test a ≡ false = none a (omega arith) (omega arith) in
-    rw (count, here) (find_skip test m n (a + 1) b (omega arith) (λ k low high. none k (omega arith) high))
+find_skip test = passed (find test) test (λ x xs e. rw e refl)
 
 pub find_none : (test : ℕ → Bool) (n a : ℕ) → NonePasses test a (a + n) → find test (range_with_len a n) ≡ None
 find_none test n a none =
@@ -131,6 +128,9 @@ pub record LastPlace (test : ℕ → Bool) (low high last : ℕ) : Type 0 where
   pub passes : test last ≡ true
   pub behind : NonePasses test (last + 1) high
 
+longer : (test : ℕ → Bool) (low high last : ℕ) → LastPlace test (low + 1) high last → LastPlace test low high last
+longer test low high last p = record { from = omega (arith, p.from); within = p.within; passes = p.passes; behind = p.behind }
+
 abbrev LastOr : (ℕ → Bool) → ℕ → ℕ → Option ℕ → Option ℕ → Type 0
 LastOr test low high o r = ((r ≡ o) × NonePasses test low high) ⊎ ((last : ℕ) × LastPlace test low high last × (r ≡ Some last))
 
@@ -140,24 +140,12 @@ last_or_known test zero low high e o = inl (refl, λ k from below. absurd (omega
 last_or_known test (suc n) low high e o =
     elim (test low) as (λ b. test low ≡ b → LastOr test low high o (last_or o (cond b (low ∷ filter test (range_with_len (low + 1) n)) (filter test (range_with_len (low + 1) n))))) [
       | true ↦ λ t. elim (last_or_known test n (low + 1) high (omega arith) (Some low)) [
-        | inl alone ↦ inr (
-          low,
-          record { from = omega arith; within = omega arith; passes = t; behind = alone.1 },
-          alone.0,
-        )
-        | inr later ↦ inr (
-          later.0,
-          record { from = omega (arith, later.1.from); within = later.1.within; passes = later.1.passes; behind = later.1.behind },
-          later.2,
-        )
+        | inl alone ↦ inr (low, record { from = omega arith; within = omega arith; passes = t; behind = alone.1 }, alone.0)
+        | inr later ↦ inr (later.0, longer test low high later.0 later.1, later.2)
       ]
       | false ↦ λ f. elim (last_or_known test n (low + 1) high (omega arith) o) [
         | inl none ↦ inl (none.0, none_before test low high none.1 f)
-        | inr later ↦ inr (
-          later.0,
-          record { from = omega (arith, later.1.from); within = later.1.within; passes = later.1.passes; behind = later.1.behind },
-          later.2,
-        )
+        | inr later ↦ inr (later.0, longer test low high later.0 later.1, later.2)
       ]
     ] refl
 

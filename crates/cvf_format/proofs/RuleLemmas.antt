@@ -61,12 +61,6 @@ each_goes_on f (h ∷ rest) l (g ∷ front) x y more e =
 abbrev HasInstant : ℤ → Fragment → Type 0
 HasInstant t f = IfSome f.instant (λ stamp. stamp ≡ t)
 
-head_has : (t : ℤ) (f : Fragment) (o : Option ℤ) → f.instant ≡ o → IfSome o (λ stamp. stamp ≡ t) → HasInstant t f
-head_has t f o is h = subst (λ (o : Option ℤ). IfSome o (λ stamp. stamp ≡ t)) (sym is) h
-
-head_of : (t : ℤ) (f : Fragment) (o : Option ℤ) → f.instant ≡ o → HasInstant t f → IfSome o (λ stamp. stamp ≡ t)
-head_of t f o is h = subst (λ (o : Option ℤ). IfSome o (λ stamp. stamp ≡ t)) is h
-
 -- the instant of a packet, if it has one, followed by the list of instants
 abbrev with_stamp : Option ℤ → List ℤ → List ℤ
 with_stamp None ts = ts
@@ -83,11 +77,11 @@ all_have t (f ∷ fs) e = by (all_have t fs) f.instant refl
     by : (list_all (int_eq t) (stamps fs) ≡ true → All (HasInstant t) fs) → (o : Option ℤ) → f.instant ≡ o → All (HasInstant t) (f ∷ fs)
     by more None is =
         let all : list_all (int_eq t) (stamps fs) ≡ true = ap (list_all (int_eq t)) (sym (stamps_first f fs None is)) ∙ e in
-        All-cons (HasInstant t) f fs (head_has t f None is tt) (more all)
+        All-cons (HasInstant t) f fs (rw is tt) (more all)
     by more (Some u) is =
         let all : (int_eq t u && list_all (int_eq t) (stamps fs)) ≡ true = ap (list_all (int_eq t)) (sym (stamps_first f fs (Some u) is)) ∙ e in
         let same : t ≡ u = (Decides-int_eq t u).0 (and_left _ _ all) in
-        All-cons (HasInstant t) f fs (head_has t f (Some u) is (sym same)) (more (and_right _ _ all))
+        All-cons (HasInstant t) f fs (rw is (sym same)) (more (and_right _ _ all))
 
 pub all_are : (t : ℤ) (fs : List Fragment) → All (HasInstant t) fs → list_all (int_eq t) (stamps fs) ≡ true
 all_are t [] a = refl
@@ -96,7 +90,8 @@ all_are t (f ∷ fs) a = by (all_are t fs (All-tail (HasInstant t) f fs a)) f.in
     by : list_all (int_eq t) (stamps fs) ≡ true → (o : Option ℤ) → f.instant ≡ o → list_all (int_eq t) (stamps (f ∷ fs)) ≡ true
     by more None is = ap (list_all (int_eq t)) (stamps_first f fs None is) ∙ more
     by more (Some u) is =
-        let same : u ≡ t = head_of t f (Some u) is (All-head (HasInstant t) f fs a) in
+        let here : IfSome f.instant (λ stamp. stamp ≡ t) = All-head (HasInstant t) f fs a in
+        let same : u ≡ t = rw is at here in
         let equal : int_eq t u ≡ true = (Decides-int_eq t u).1 (sym same) in
         ap (list_all (int_eq t)) (stamps_first f fs (Some u) is) ∙ rw (equal, more) refl
 

@@ -2,10 +2,11 @@
 use Rattle.std.proofs.Common.{◌≡◌, Bool, true, false, List, [], ◌∷◌, ◌++◌, length, refl, sym, ap, ◌∙◌, append_assoc}
 use Rattle.std.specs.Prelude.{not, nat_lt, map}
 use Rattle.std.proofs.Math.Bool.{and-false}
+use Rattle.std.proofs.lemmas.List.{append-nil}
 use Rattle.cvf_format.specs.Stretches.{Fragment, Event, packet, cut, after_cuts, begins, goes_on, completes, follows, are_linked, is_stretch, stretch_of, last_stretch, is_within, is_complete, before_last, waiting, held, piece_of, is_joined}
 use Rattle.cvf_format.specs.Assembly.{last_of}
 use Rattle.cvf_format.specs.Settled.{packets, settled, settled_as, settled_by}
-use Rattle.cvf_format.proofs.StretchLemmas.{append_none, after_packet, and_left, continues, alone, step, last_packet, last_cut, before_more, complete_last}
+use Rattle.cvf_format.proofs.StretchLemmas.{after_packet, and_left, continues, alone, step, last_packet, last_cut, before_more, complete_last}
 use Rattle.cvf_format.proofs.AssemblyLemmas.{begins_not_goes, joined_none, lost_of, some_more, stays_long, waits_none}
 
 -- ---- one event
@@ -24,7 +25,7 @@ lost_itself g gs f e = by (is_within (before_last (g ∷ gs))) refl
 
 -- if a packet does not join the waiting packets and is itself settled at once, all waiting packets are settled, too
 adds_lost : (before : List Fragment) (f : Fragment) (after : List Fragment) → is_joined after ≡ false → settled_as (piece_of after) f after ≡ f ∷ [] → waiting after ≡ [] → AddsUp before f after
-adds_lost before f after j s w = rw (j, s, w) (sym (append_none (waiting before ++ f ∷ [])))
+adds_lost before f after j s w = rw (j, s, w) (sym (append-nil (waiting before ++ f ∷ [])))
 
 adds_none : (before : List Fragment) (f : Fragment) → AddsUp before f []
 adds_none before f = adds_lost before f [] joined_none refl waits_none
@@ -35,7 +36,7 @@ adds_one before f = by (is_within (f ∷ [])) (is_complete (f ∷ [])) refl refl
     by : (w c : Bool) → is_within (f ∷ []) ≡ w → is_complete (f ∷ []) ≡ c → AddsUp before f (f ∷ [])
     by false c p q = adds_lost before f (f ∷ []) refl (lost_itself f [] f p) (rw p refl)
     by true true p q = adds_lost before f (f ∷ []) refl (rw (p, q) refl) (rw (p, q) refl)
-    by true false p q = rw (p, q) (ap (λ (xs : List Fragment). xs ++ f ∷ []) (sym (append_none (waiting before))))
+    by true false p q = rw (p, q) (ap (λ (xs : List Fragment). xs ++ f ∷ []) (sym (append-nil (waiting before))))
 
 -- assume that a packet continues a stretch, and that the longer stretch is within the limits; then all packets of the
 -- shorter stretch were waiting
@@ -57,7 +58,7 @@ adds_more g gs f goes = by (is_within (g ∷ (gs ++ f ∷ []))) (is_complete (g 
     by false c p q =
         adds_lost (g ∷ gs) f (g ∷ (gs ++ f ∷ []))
         (rw p (and-false (nat_lt 1 (length (g ∷ (gs ++ f ∷ [])))))) (lost_itself g (gs ++ f ∷ []) f p) (rw p refl)
-    by true true p q = rw (was_waiting g gs f goes p, some_more g gs f, p, q) (sym (append_none (g ∷ (gs ++ f ∷ []))))
+    by true true p q = rw (was_waiting g gs f goes p, some_more g gs f, p, q) (sym (append-nil (g ∷ (gs ++ f ∷ []))))
     by true false p q = rw (was_waiting g gs f goes p, some_more g gs f, p, q) refl
 
 adds_alone : (before : List Fragment) (f : Fragment) (b : Bool) → begins f.part ≡ b → AddsUp before f (alone f)
@@ -83,7 +84,7 @@ packets_more (packet f) events = refl
 packets_more cut events = refl
 
 all_settled : (before events : List Event) → held before ++ packets events ≡ settled before events ++ held (before ++ events)
-all_settled before [] = rw (append_none before) (append_none (held before))
+all_settled before [] = rw (append-nil before) (append-nil (held before))
 all_settled before (event ∷ events) =
     let here = event_settles before event in
     let rest = all_settled (before ++ event ∷ []) events in
@@ -105,7 +106,7 @@ each_settled events =
 -- ---- the stretch at the end of a list
 
 ends_more : (events : List Event) (run : List Fragment) → after_cuts (events ++ map packet run) ≡ after_cuts events ++ run
-ends_more events [] = rw (append_none events) (sym (append_none (after_cuts events)))
+ends_more events [] = rw (append-nil events) (sym (append-nil (after_cuts events)))
 ends_more events (f ∷ rest) =
     ap after_cuts (sym (append_assoc events (packet f ∷ []) (map packet rest)))
     ∙ ends_more (events ++ packet f ∷ []) rest
@@ -129,13 +130,9 @@ found_at_the_end : (xs : List Fragment) (f : Fragment) (rest : List Fragment) �
 found_at_the_end [] f rest e = rw e refl
 found_at_the_end (x ∷ xs) f rest e = rw (not_begun x xs f rest (stretch_begins f rest e)) (found_at_the_end xs f rest e)
 
-none_stretch : is_stretch [] ≡ false
-unfolding is_stretch
-none_stretch = refl
-
 pub one_stretch : (events : List Event) (run : List Fragment) (front : List Event) → events ≡ front ++ map packet run → is_stretch run ≡ true → last_stretch events ≡ run
-unfolding last_stretch
-one_stretch events [] front is e = let none = none_stretch in absurd cc
+unfolding last_stretch is_stretch
+one_stretch events [] front is e = absurd cc
 one_stretch events (f ∷ rest) front is e =
     ap (λ (es : List Event). stretch_of (after_cuts es)) is
     ∙ ap stretch_of (ends_more front (f ∷ rest))

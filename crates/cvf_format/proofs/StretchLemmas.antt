@@ -1,8 +1,10 @@
 -- How one more event changes the stretch at the end of the events.
-use Rattle.std.proofs.Common.{◌≡◌, ℕ, ◌-◌, Bool, true, false, ℤ, List, [], ◌∷◌, ◌++◌, length, Option, None, Some, refl, ap, ◌∙◌, arith, length-append}
+use Rattle.std.proofs.Common.{◌≡◌, ℕ, ◌-◌, Bool, true, false, ℤ, List, [], ◌∷◌, ◌++◌, length, Option, None, Some, refl, sym, ap, ◌∙◌, arith, length-append}
 use Rattle.std.specs.Prelude.{◌&&◌, if◌then◌else◌}
 use Rattle.std.specs.List.{list_any, list_all, flat_map}
 use Rattle.std.specs.Ordering.{int_eq}
+use mathlib.Core.Bool.{and_assoc}
+use Rattle.std.proofs.lemmas.List.{append-nil}
 use Rattle.std.proofs.lemmas.List.Elements.{filter_map-append}
 use Rattle.std.proofs.lemmas.Grind.{flat_map-append}
 use Rattle.std.proofs.Math.Seq.{take-append_seam}
@@ -14,10 +16,6 @@ use Rattle.cvf_format.specs.Assembly.{first_stamp, last_of}
 use Rattle.cvf_format.specs.state.Assembly.{agree}
 
 -- ---- Booleans
-
-and_assoc : (a b c : Bool) → (a && (b && c)) ≡ ((a && b) && c)
-and_assoc true b c = refl
-and_assoc false b c = refl
 
 pub and_left : (a b : Bool) → (a && b) ≡ true → a ≡ true
 and_left true b e = refl
@@ -64,19 +62,15 @@ after_cut (packet g ∷ events) = rw (any_cut events) (after_cut events)
 
 linked_more : (f : Fragment) (rest : List Fragment) (g : Fragment) → are_linked f (rest ++ g ∷ []) ≡ (are_linked f rest && follows (last_of f rest) g)
 linked_more f [] g = and-true (follows f g)
-linked_more f (h ∷ rest) g = rw (linked_more h rest g) (and_assoc (follows f h) (are_linked h rest) (follows (last_of h rest) g))
+linked_more f (h ∷ rest) g = rw (linked_more h rest g) (sym (and_assoc (follows f h) (are_linked h rest) (follows (last_of h rest) g)))
 
 all_more : (t : ℤ) (ts : List ℤ) (u : ℤ) → list_all (int_eq t) (ts ++ u ∷ []) ≡ (list_all (int_eq t) ts && int_eq t u)
 all_more t [] u = and-true (int_eq t u)
-all_more t (v ∷ ts) u = rw (all_more t ts u) (and_assoc (int_eq t v) (list_all (int_eq t) ts) (int_eq t u))
+all_more t (v ∷ ts) u = rw (all_more t ts u) (sym (and_assoc (int_eq t v) (list_all (int_eq t) ts) (int_eq t u)))
 
 equal_more : (ts : List ℤ) (u : ℤ) → all_equal (ts ++ u ∷ []) ≡ (all_equal ts && agree (first_stamp ts) (Some u))
 equal_more [] u = refl
 equal_more (t ∷ ts) u = all_more t ts u
-
-pub append_none : {A : Type 0} (xs : List A) → xs ++ [] ≡ xs
-append_none [] = refl
-append_none (x ∷ xs) = ap (λ (ys : List _). x ∷ ys) (append_none xs)
 
 agree_none : (t : Option ℤ) → agree t None ≡ true
 agree_none None = refl
@@ -86,7 +80,7 @@ pub stamps_more : (fs : List Fragment) (g : Fragment) → stamps (fs ++ g ∷ []
 stamps_more fs g = filter_map-append (λ (f : Fragment). f.instant) fs (g ∷ [])
 
 equal_stamps : (ts : List ℤ) (g : Fragment) (t : Option ℤ) → g.instant ≡ t → all_equal (ts ++ stamps (g ∷ [])) ≡ (all_equal ts && agree (first_stamp ts) g.instant)
-equal_stamps ts g None e = rw (e, append_none ts, agree_none (first_stamp ts), and-true (all_equal ts)) refl
+equal_stamps ts g None e = rw (e, append-nil ts, agree_none (first_stamp ts), and-true (all_equal ts)) refl
 equal_stamps ts g (Some t) e = rw e (equal_more ts t)
 
 -- The packet continues the unit of the stretch's last packet. If both the packet and the stretch have an instant, the
@@ -185,7 +179,7 @@ complete_last f (h ∷ rest) = complete_last h rest
 pub unit_more : (f : Fragment) (rest : List Fragment) (g : Fragment) → unit_of (f ∷ (rest ++ g ∷ [])) ≡ unit_of (f ∷ rest) ++ g.body
 unit_more f rest g =
     let all = flat_map-append (λ (h : Fragment). h.body) (f ∷ rest) (g ∷ []) in
-    ap (λ (bytes : List ℕ). f.nal ∷ bytes) (all ∙ ap (λ (b : List ℕ). flat_map (λ (h : Fragment). h.body) (f ∷ rest) ++ b) (append_none g.body))
+    ap (λ (bytes : List ℕ). f.nal ∷ bytes) (all ∙ ap (λ (b : List ℕ). flat_map (λ (h : Fragment). h.body) (f ∷ rest) ++ b) (append-nil g.body))
 
 pub last_more : (f : Fragment) (rest : List Fragment) (g : Fragment) → last_of f (rest ++ g ∷ []) ≡ g
 last_more f [] g = refl

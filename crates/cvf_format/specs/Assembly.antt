@@ -1,8 +1,9 @@
 -- What an assembler keeps of the packets that are pushed.
-use Rattle.std.specs.Prelude.{◌≡◌, ℕ, ◌+◌, ◌%◌, Bool, if◌then◌else◌, ℤ, List, [], ◌∷◌, map, Option, None, Some}
+use Rattle.std.specs.Prelude.{◌≡◌, ℕ, ◌+◌, ◌%◌, Bool, if◌then◌else◌, ℤ, List, [], ◌∷◌, ◌++◌, length, map, Option, None, Some}
 use Rattle.cvf_format.specs.declared.cvf.CvfView.{CvfView}
 use Rattle.cvf_format.specs.declared.piece.Mark.{Mark}
-use Rattle.cvf_format.specs.Stretches.{Fragment, Event, mark_of, unit_of, stamps, held, lost_marks, whole_unit, sequence_numbers}
+use Rattle.cvf_format.specs.declared.piece.Pushed.{Pushed}
+use Rattle.cvf_format.specs.Stretches.{Fragment, Event, packet, cut, given_up, reason, piece, mark_of, unit_of, stamps, held, lost_marks, whole_unit, sequence_numbers}
 
 -- The state of an assembler. `bytes` are the bytes of the unit so far, and `whole` is true if the unit is complete.
 -- `held` are the marks of the packets that wait for the rest of their unit. `lost` are the marks of the packets that
@@ -66,3 +67,18 @@ pub record StandsFor (a : Assembly) (events : List Event) : Type 0 where
   pub waits : KeepsAll a (held events)
   pub lost : a.lost ≡ lost_marks events
   pub unit : shown_unit a ≡ whole_unit events
+
+-- The packet `f` was pushed. The answer says what becomes of the packet, how many packets were given up and why. The
+-- file `Stretches.antt` says when a unit is broken (`is_stretch`), and when it is too long (`is_within`).
+pub record Pushes (old new : Assembly) (f : Fragment) (answer : Pushed) : Type 0 where
+  pub stands : (events : List Event) → StandsFor old events → StandsFor new (events ++ packet f ∷ [])
+  pub lost : (events : List Event) → StandsFor old events → answer.lost ≡ length (given_up (events ++ packet f ∷ []))
+  pub why : (events : List Event) → StandsFor old events → answer.why ≡ reason (events ++ packet f ∷ [])
+  pub marks : answer.lost ≡ length new.lost
+  pub piece : (events : List Event) → StandsFor old events → answer.piece ≡ piece (events ++ packet f ∷ [])
+
+-- a cut was marked, and this number of packets was given up
+pub record Cuts (old new : Assembly) (count : ℕ) : Type 0 where
+  pub stands : (events : List Event) → StandsFor old events → StandsFor new (events ++ cut ∷ [])
+  pub lost : (events : List Event) → StandsFor old events → count ≡ length (given_up (events ++ cut ∷ []))
+  pub marks : count ≡ length new.lost

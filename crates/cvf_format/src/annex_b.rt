@@ -27,6 +27,7 @@ fn find_from(bytes: &[u8], needle: &[u8], from: usize) -> Option<usize>
 
 /// Whether a unit ends before the two zero bytes at index `zeros`. A unit ends there if the bytes from `zeros` on begin
 /// with a start code or three zero bytes.
+#[tactic(auto, using(crate::proofs::AnnexBLemmas::third_tells))]
 fn ends_at(bytes: &[u8], zeros: usize) -> bool
     requires { OccursAt bytes.now (0 ∷ 0 ∷ []) zeros }
     ensures { result ≡ is_end bytes.now zeros }

@@ -1,9 +1,9 @@
 //! Puts NAL units together from packets (RFC 6184, 5.8).
 
 ghost use Rattle.std.specs.Prelude.{◌≡◌, ◌+◌, ◌%◌, ◌≤◌, ◌<◌, ◌++◌, ◌∷◌, [], length, slice_get, List, IfOk, IsTrue, IsSome, true, if◌then◌else◌};
-ghost use Rattle.cvf_format.specs.Stretches.{Event, cut as cut_event, packet, given_up, lost_marks, piece as piece_after, reason, sequence_numbers, whole_unit, completes, goes_on, begins};
-ghost use Rattle.cvf_format.specs.Assembly.{StandsFor, fragment_of, longest_body, shown_unit};
-ghost use Rattle.cvf_format.specs.state.Assembly.{IsPushed, agree, broken, gave_up, goes_on_here, has_room, lost_for, or_first, settled, size_with, with_first, with_next};
+ghost use Rattle.cvf_format.specs.Stretches.{Event, packet, lost_marks, sequence_numbers, whole_unit, completes, goes_on, begins};
+ghost use Rattle.cvf_format.specs.Assembly.{Cuts, Pushes, StandsFor, fragment_of, longest_body, shown_unit};
+ghost use Rattle.cvf_format.specs.state.Assembly.{Leaves, agree, broken, gave_up, goes_on_here, has_room, lost_for, settled, size_with, with_first, with_next};
 
 use crate::cvf::{CvfView, NalPart};
 use crate::piece::{Lost, Mark, Piece, Pushed};
@@ -75,40 +75,22 @@ fn agrees(a: Option<i64>, b: Option<i64>) -> bool
     }
 }
 
-fn or_later(a: Option<i64>, b: Option<i64>) -> Option<i64>
-    ensures { result ≡ or_first a b }
-{
-    match a {
-        Some(a) => Some(a),
-        None => b,
-    }
-}
-
 fn continues_unit(part: NalPart) -> bool
     ensures { result ≡ goes_on part }
 {
-    match part {
-        NalPart::Middle | NalPart::Last => true,
-        NalPart::Single | NalPart::First => false,
-    }
+    matches!(part, NalPart::Middle | NalPart::Last)
 }
 
 fn begins_unit(part: NalPart) -> bool
     ensures { result ≡ begins part }
 {
-    match part {
-        NalPart::Single | NalPart::First => true,
-        NalPart::Middle | NalPart::Last => false,
-    }
+    matches!(part, NalPart::Single | NalPart::First)
 }
 
 fn completes_unit(part: NalPart) -> bool
     ensures { result ≡ completes part }
 {
-    match part {
-        NalPart::Single | NalPart::Last => true,
-        NalPart::First | NalPart::Middle => false,
-    }
+    matches!(part, NalPart::Single | NalPart::Last)
 }
 
 impl Assembler {
@@ -138,17 +120,18 @@ impl Assembler {
     pub fn push(&mut self, mark: Mark, instant: Option<i64>, view: &CvfView<'_>) -> Pushed
         requires body { length view.now.body.now ≤ longest_body }
         requires stamped { IsTrue (completes view.now.part) → IsSome instant }
-        ensures stands { (events : List Event) → StandsFor self.old events
-            → StandsFor self.new (events ++ packet (fragment_of mark instant view.now) ∷ []) }
-        ensures piece { (events : List Event) → StandsFor self.old events
-            → result.piece ≡ piece_after (events ++ packet (fragment_of mark instant view.now) ∷ []) }
-        ensures lost { (events : List Event) → StandsFor self.old events
-            → result.lost ≡ length (given_up (events ++ packet (fragment_of mark instant view.now) ∷ [])) }
-        ensures why { (events : List Event) → StandsFor self.old events
-            → result.why ≡ reason (events ++ packet (fragment_of mark instant view.now) ∷ []) }
-        ensures marks { result.lost ≡ length self.new.lost }
+        ensures { Pushes self.old self.new (fragment_of mark instant view.now) result }
     {
-        self.push_packet(mark, instant, view)
+        if begins_unit(view.part) {
+            return self.begin(mark, instant, view);
+        }
+        if !self.goes_on_with(mark, instant, view) {
+            return self.lose(Lost::Broken);
+        }
+        if !self.has_room_for(view.body) {
+            return self.lose(Lost::Long);
+        }
+        self.go_on(mark, instant, view)
     }
 
     /// The mark of fragment `i` among the fragments that the most recent packet or cut gave up. The given-up fragments
@@ -163,15 +146,14 @@ impl Assembler {
     /// Marks a cut: no unit continues across it. Gives up the waiting fragments and returns their number. Allocates
     /// nothing.
     pub fn cut(&mut self) -> u32
-        ensures stands { (events : List Event) → StandsFor self.old events → StandsFor self.new (events ++ cut_event ∷ []) }
-        ensures lost { (events : List Event) → StandsFor self.old events → result ≡ length (given_up (events ++ cut_event ∷ [])) }
-        ensures marks { result ≡ length self.new.lost }
+        ensures { Cuts self.old self.new result }
     {
         self.give_up()
     }
 
     /// The bytes of the unit that the most recent packet completed. The result is empty after a cut, or if that packet
     /// completed no unit.
+    #[tactic(auto, using(crate::proofs::AssemblyLemmas::unit_shown))]
     pub fn unit(&self) -> &[u8]
         ensures { (events : List Event) → StandsFor self.now events → result.now ≡ whole_unit events }
     {
@@ -213,29 +195,9 @@ impl Assembler {
         &[]
     }
 
-    /// Takes a packet. The packet begins a unit, continues the waiting unit, or is lost and gives up the waiting unit.
-    fn push_packet(&mut self, mark: Mark, instant: Option<i64>, view: &CvfView<'_>) -> Pushed
-        requires { length view.now.body.now ≤ longest_body }
-        ensures pushed { (events : List Event) → StandsFor self.old events
-            → IsPushed self.new (events ++ packet (fragment_of mark instant view.now) ∷ []) result }
-        ensures count { result.lost ≡ length self.new.lost }
-    {
-        if begins_unit(view.part) {
-            return self.begin(mark, instant, view);
-        }
-        if !self.goes_on_with(mark, instant, view) {
-            return self.lose(Lost::Broken);
-        }
-        if !self.has_room_for(view.body) {
-            return self.lose(Lost::Long);
-        }
-        self.go_on(mark, instant, view)
-    }
-
     /// Gives up all waiting fragments and returns their number.
     fn give_up(&mut self) -> u32
-        ensures left { self.new ≡ gave_up self.old }
-        ensures count { result ≡ length self.old.held }
+        ensures { Leaves self.new (gave_up self.old) result (length self.old.held) }
     {
         self.whole = false;
         std::mem::swap(&mut self.held, &mut self.lost);
@@ -273,16 +235,6 @@ impl Assembler {
         };
     }
 
-    /// Keeps the mark of a fragment that waits. There must be room for the mark.
-    fn hold(&mut self, mark: Mark)
-        requires { length self.old.held < MOST_FRAGMENTS }
-        ensures { self.new ≡ record self.old { held = self.old.held ++ mark ∷ [] } }
-    {
-        let Ok(()) = self.held.push(mark) else {
-            unreachable!()
-        };
-    }
-
     /// Notes what the next fragment must carry.
     fn expect_after(&mut self, mark: Mark, nal: u8)
         ensures { self.new ≡ record self.old { nal = nal; next_seq = (mark.seq + 1) % sequence_numbers } }
@@ -294,23 +246,23 @@ impl Assembler {
     /// Notes that the packet waits, or that it completes the unit.
     fn settle(&mut self, mark: Mark, part: NalPart) -> Piece
         requires { length self.old.held < MOST_FRAGMENTS }
-        ensures left { self.new ≡ record self.old { held = if completes part then [] else self.old.held ++ mark ∷ []; whole = completes part } }
-        ensures piece { result ≡ settled part }
+        ensures { Leaves self.new (record self.old { held = if completes part then [] else self.old.held ++ mark ∷ []; whole = completes part }) result (settled part) }
     {
         self.whole = completes_unit(part);
         if self.whole {
             self.held.clear();
             return Piece::Whole;
         }
-        self.hold(mark);
+        let Ok(()) = self.held.push(mark) else {
+            unreachable!()
+        };
         Piece::Held
     }
 
     /// Begins a unit. The waiting unit, if there is one, is given up.
     fn begin(&mut self, mark: Mark, instant: Option<i64>, view: &CvfView<'_>) -> Pushed
         requires { length view.now.body.now ≤ longest_body }
-        ensures left { self.new ≡ with_first self.old (fragment_of mark instant view.now) }
-        ensures pushed { result ≡ record { lost = length self.old.held; why = broken; piece = settled view.now.part } }
+        ensures { Leaves self.new (with_first self.old (fragment_of mark instant view.now)) result (record { lost = length self.old.held; why = broken; piece = settled view.now.part }) }
     {
         let lost = self.give_up();
         self.bytes.clear();
@@ -330,12 +282,11 @@ impl Assembler {
     #[tactic(auto, unfolding(crate::specs::state::Assembly::has_room))]
     fn go_on(&mut self, mark: Mark, instant: Option<i64>, view: &CvfView<'_>) -> Pushed
         requires { has_room self.old view.now.body.now ≡ true }
-        ensures left { self.new ≡ with_next self.old (fragment_of mark instant view.now) }
-        ensures pushed { result ≡ record { lost = 0; why = broken; piece = settled view.now.part } }
+        ensures { Leaves self.new (with_next self.old (fragment_of mark instant view.now)) result (record { lost = 0; why = broken; piece = settled view.now.part }) }
     {
         self.lost.clear();
         self.append(view.body);
-        self.instant = or_later(self.instant, instant);
+        self.instant = self.instant.or(instant);
         self.expect_after(mark, view.nal);
         let piece = self.settle(mark, view.part);
         Pushed {
@@ -347,8 +298,7 @@ impl Assembler {
 
     /// Loses the packet, and gives up the waiting unit.
     fn lose(&mut self, why: Lost) -> Pushed
-        ensures left { self.new ≡ gave_up self.old }
-        ensures pushed { result ≡ record { lost = length self.old.held; why = why; piece = lost_for why } }
+        ensures { Leaves self.new (gave_up self.old) result (record { lost = length self.old.held; why = why; piece = lost_for why }) }
     {
         let lost = self.give_up();
         Pushed {

@@ -18,6 +18,7 @@ pub fn packet_again()
 
 /// Suppose that bytes spell a packet, that no reserved bit is set, and that the bytes end where the packet ends. Then
 /// the bytes are exactly those that are written for the packet.
+#[tactic(auto, using(crate::proofs::CvfLemmas::cvf_only))]
 pub fn one_spelling()
     ensures { (bytes : List ℕ) (v : Cvf) → AreBytes bytes → SpellsCvf bytes v → v.reserved ≡ false
         → length bytes ≡ 24 + v.header.data_length → bytes ≡ cvf_spelling v }

@@ -5,7 +5,7 @@ ghost use Rattle.avtp_base.specs.Octets.{any_set, bits};
 ghost use Rattle.avtp_base.specs.Rows.{Reads, first_row};
 ghost use Rattle.avtp_base.specs.Layout.{reserved_ranges};
 ghost use Rattle.cvf_format.specs.Cvf.{Cvf, SpellsCvf, body_of, cvf_layout, cvf_of, cvf_refusal, cvf_shape, format_rows, fragment_of, header_size as size_of_header, is_fragment as is_fragment_of, is_single_type as is_single, nal_of, nal_rows, part_of, sets_reserved as is_reserved_set};
-ghost use Rattle.cvf_format.specs.state.Reading.{IsStated};
+ghost use Rattle.cvf_format.specs.state.Reading.{IsStated, ReadsPart};
 
 use crate::cvf::{CvfView, FU_A, NalPart, header_size};
 use avtp_base::octets::{bit_at, bits_at, u16_at, u32_at};
@@ -48,8 +48,7 @@ fn is_fragment(pdu: &[u8]) -> bool
 fn fragment_part(pdu: &[u8], stated: u16) -> Result<NalPart, Refusal>
     requires stated { IsStated pdu.now stated }
     requires fragment { IsTrue (is_fragment_of pdu.now) }
-    ensures read { Reads (λ part. part) (first_row (nal_rows pdu.now)) (part_of pdu.now) result }
-    ensures whole { IfOk result (λ part. size_of_header part ≤ 24 + stated) }
+    ensures { ReadsPart pdu.now stated result }
 {
     if stated == 5 {
         return Err(cut_off(Field::FuHeader, 29));
@@ -68,8 +67,7 @@ fn fragment_part(pdu: &[u8], stated: u16) -> Result<NalPart, Refusal>
 /// What a packet carries of a NAL unit, if the headers of the unit are accepted.
 fn nal_part(pdu: &[u8], stated: u16) -> Result<NalPart, Refusal>
     requires { IsStated pdu.now stated }
-    ensures read { Reads (λ part. part) (first_row (nal_rows pdu.now)) (part_of pdu.now) result }
-    ensures whole { IfOk result (λ part. size_of_header part ≤ 24 + stated) }
+    ensures { ReadsPart pdu.now stated result }
 {
     if is_fragment(pdu) {
         return fragment_part(pdu, stated);

@@ -2,9 +2,10 @@
 
 ghost use Rattle.std.specs.Prelude.{◌≡◌, ◌+◌, ◌-◌, ◌*◌, ◌^◌, ◌≤◌, ◌<◌, ◌++◌, List, ℕ, take, IfOk};
 ghost use Rattle.avtp_base.specs.Octets.{flag};
-ghost use Rattle.avtp_base.specs.Layout.{Fits, spelling};
+ghost use Rattle.avtp_base.specs.Layout.{spelling};
 ghost use Rattle.avtp_base.specs.Rows.{Writes};
-ghost use Rattle.cvf_format.specs.Cvf.{IsWritableCvf, SpellsCvf, cvf_shape, cvf_spelling, header_size as size_of_header, headers_of, layout_of, plain_cvf};
+ghost use Rattle.cvf_format.specs.Cvf.{IsWritableCvf, SpellsCvf, cvf_shape, cvf_spelling, header_size as size_of_header, headers_of, plain_cvf};
+ghost use Rattle.cvf_format.specs.state.Reading.{IsHead};
 
 use crate::cvf::{CvfView, FU_A, NalPart, header_size};
 use avtp_base::Room;
@@ -40,8 +41,7 @@ fn nal_headers(view: &CvfView<'_>) -> [u8; 2]
 /// The bytes before the body, and one unused byte if the NAL unit is whole.
 fn packet_header(view: &CvfView<'_>) -> [u8; 30]
     requires { IsWritableCvf (cvf_shape view.now) }
-    ensures spelled { take (size_of_header view.now.part) result ≡ spelling (layout_of view.now.part) (cvf_shape view.now) }
-    ensures fits { Fits (layout_of view.now.part) (cvf_shape view.now) }
+    ensures { IsHead (cvf_shape view.now) result }
 {
     let header = header_bytes(&view.header, 0, FORMAT_DATA, format_flags(view));
     let mut bytes = [0u8; 30];

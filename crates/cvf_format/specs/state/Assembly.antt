@@ -2,6 +2,7 @@
 -- a packet.
 use Rattle.std.specs.Prelude.{◌≡◌, ℕ, ◌+◌, ◌%◌, ◌==◌, nat_le, nat_lt, Bool, true, false, not, ◌&&◌, if◌then◌else◌, ℤ, List, [], ◌∷◌, ◌++◌, length, Option, None, Some}
 use Rattle.std.specs.Ordering.{int_eq}
+use Rattle.std.specs.Option.{option_or}
 use Rattle.cvf_format.specs.declared.cvf.NalPart.{NalPart}
 use Rattle.cvf_format.specs.declared.piece.Lost.{Lost}
 use Rattle.cvf_format.specs.declared.piece.Lost.TheVariants.{Broken}
@@ -17,6 +18,11 @@ pub record IsPushed (a : Assembly) (events : List Event) (pushed : Pushed) : Typ
   pub lost : pushed.lost ≡ length (given_up events)
   pub why : pushed.why ≡ reason events
   pub piece : pushed.piece ≡ piece events
+
+-- a call left the assembler in the state `after`, and returned `answer`
+pub record Leaves {X : Type 0} (new after : Assembly) (result answer : X) : Type 0 where
+  pub left : new ≡ after
+  pub returned : result ≡ answer
 
 -- ---- the state after a packet
 
@@ -38,10 +44,6 @@ has_room a body = nat_le (length a.bytes + length body) longest_unit && nat_lt (
 -- the assembler after it gave up all waiting packets
 abbrev pub gave_up : Assembly → Assembly
 gave_up a = record a { held = []; lost = a.held; whole = false }
-
-abbrev pub or_first : Option ℤ → Option ℤ → Option ℤ
-or_first None b = b
-or_first (Some a) b = Some a
 
 abbrev pub broken : Lost
 broken = Broken
@@ -71,7 +73,7 @@ with_next a f = record {
   lost = [];
   nal = f.nal;
   next_seq = (f.mark.seq + 1) % sequence_numbers;
-  instant = or_first a.instant f.instant;
+  instant = option_or a.instant f.instant;
   whole = completes f.part;
 }
 

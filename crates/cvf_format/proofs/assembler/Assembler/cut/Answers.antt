@@ -1,12 +1,13 @@
-use Rattle.std.proofs.Common.{◌∙◌, sym, subst, ◌++◌, ◌∷◌, []}
+use Rattle.std.proofs.Common.{◌∙◌, sym, subst, ap, List, length, ◌++◌, ◌∷◌, []}
+use Rattle.cvf_format.specs.declared.piece.Mark.{Mark}
 use Rattle.cvf_format.specs.Stretches.{cut}
 use Rattle.cvf_format.specs.Assembly.{Assembly, StandsFor}
 use Rattle.cvf_format.proofs.AssemblyLemmas.{cut_stands, cut_count}
 use Rattle.cvf_format.proofs.assembler.Assembler.cut.Goals as goal
 
-pub returns-clause-stands : goal.returns-clause-stands
-returns-clause-stands c = λ events s.
-    subst (λ (a : Assembly). StandsFor a (events ++ cut ∷ [])) (sym c.give_up.ensures.left) (cut_stands c.args.self.now events s)
-
-pub returns-clause-lost : goal.returns-clause-lost
-returns-clause-lost c = λ events s. c.give_up.ensures.count ∙ cut_count c.args.self.now events s
+pub returns : goal.returns
+returns c = record {
+  stands = λ events s. subst (λ (a : Assembly). StandsFor a (events ++ cut ∷ [])) (sym c.give_up.ensures.left) (cut_stands c.args.self.now events s);
+  lost = λ events s. c.give_up.ensures.returned ∙ cut_count c.args.self.now events s;
+  marks = c.give_up.ensures.returned ∙ sym (ap (λ (a : Assembly). length a.lost) c.give_up.ensures.left);
+}
