@@ -9,7 +9,7 @@ use Rattle.avtp_base.specs.Rows.{first_row, or_else}
 use Rattle.avtp_base.specs.Layout.{Layout, Spells, Fits, spelling, first_short}
 use Rattle.avtp_base.proofs.BitLemmas.{bit_of_flag, bit_shown, bits-below}
 use Rattle.avtp_base.proofs.RowLemmas.{or_else-none, rows_passed, passed_rows, not_other, or_else-accepted, same_not_other, unequal}
-use Rattle.avtp_base.proofs.HoldLemmas.{held_spells, is_told, spelled_holds}
+use Rattle.avtp_base.proofs.HoldLemmas.{held_spells, is_plain, is_told, spelled_holds}
 use Rattle.avtp_base.proofs.OnlySpelling.{layout_size, only_spelling}
 use Rattle.avtp_base.proofs.LayoutLemmas.{Holds, IsLaid, holds_spelled, unset_spelled}
 use Rattle.avtp_header.specs.declared.header.StreamHeader.{StreamHeader}
@@ -316,25 +316,20 @@ record IsTable (part : NalPart) : Type 0 where
   told : is_told (layout_of part) ≡ true
   size : layout_size (layout_of part) ≡ header_size part
   some : 29 ≤ header_size part
+  plain : (v : Cvf) → is_plain (layout_of part) (plain_cvf v) ≡ true
+  same : (v : Cvf) (bytes : List ℕ) → Holds (layout_of part) v bytes → Holds (layout_of part) (plain_cvf v) bytes
 
 table : (part : NalPart) → IsTable part
-table Single = record { laid = single_laid; told = refl; size = refl; some = omega arith }
-table First = record { laid = fragment_laid; told = refl; size = refl; some = omega arith }
-table Middle = record { laid = fragment_laid; told = refl; size = refl; some = omega arith }
-table Last = record { laid = fragment_laid; told = refl; size = refl; some = omega arith }
+table Single = record { laid = single_laid; told = refl; size = refl; some = omega arith; plain = λ v. refl; same = λ v bytes h. h }
+table First = record { laid = fragment_laid; told = refl; size = refl; some = omega arith; plain = λ v. refl; same = λ v bytes h. h }
+table Middle = record { laid = fragment_laid; told = refl; size = refl; some = omega arith; plain = λ v. refl; same = λ v bytes h. h }
+table Last = record { laid = fragment_laid; told = refl; size = refl; some = omega arith; plain = λ v. refl; same = λ v bytes h. h }
 
 pub length_of_headers : (part : NalPart) (v : Cvf) → length (spelling (layout_of part) v) ≡ header_size part
 length_of_headers Single v = refl
 length_of_headers First v = refl
 length_of_headers Middle v = refl
 length_of_headers Last v = refl
-
--- if bytes hold the headers as they are written for `v`, these bytes spell the headers of `plain_cvf v`
-held_plain : (part : NalPart) (v : Cvf) (bytes : List ℕ) → Holds (layout_of part) v bytes → Spells (layout_of part) (plain_cvf v) bytes
-held_plain Single v bytes h = held_spells (layout_of Single) (plain_cvf v) bytes refl h
-held_plain First v bytes h = held_spells (layout_of First) (plain_cvf v) bytes refl h
-held_plain Middle v bytes h = held_spells (layout_of Middle) (plain_cvf v) bytes refl h
-held_plain Last v bytes h = held_spells (layout_of Last) (plain_cvf v) bytes refl h
 
 -- no row of the NAL unit's headers refuses the bytes of a fragment
 fragment_accepted : (part : NalPart) (v : Cvf) (bytes : List ℕ) → v.part ≡ part → (starts part && ends part) ≡ false
@@ -393,7 +388,7 @@ accepted_again bytes v whole s h long =
 held : (bytes : List ℕ) (v : Cvf) → IsWritableCvf v → Holds (layout_of v.part) v bytes → 24 + v.header.data_length ≤ length bytes
     → v.body ≡ body_of v.part v.header.data_length bytes → SpellsCvf bytes (plain_cvf v)
 held bytes v whole f long body =
-    let spells = held_plain v.part v bytes f in
+    let spells = held_spells (layout_of v.part) (plain_cvf v) bytes ((table v.part).plain v) ((table v.part).same v bytes f) in
     record {
       accepted = accepted_again bytes v whole (shared_so (headers_of v.part) (plain_cvf v) bytes spells) (rest_so (headers_of v.part) (plain_cvf v) bytes spells) long;
       fields = spells;

@@ -9,6 +9,7 @@ use Rattle.std.proofs.lemmas.List.Elements.{filter_map-append}
 use Rattle.std.proofs.lemmas.Grind.{flat_map-append}
 use Rattle.std.proofs.Math.Seq.{take-append_seam}
 use Rattle.std.proofs.Math.Bool.{and-true}
+use Rattle.std.proofs.lemmas.Bool.{and_parts}
 use Rattle.cvf_format.specs.declared.cvf.NalPart.{NalPart}
 use Rattle.cvf_format.specs.declared.cvf.NalPart.TheVariants.{Single, First, Middle, Last}
 use Rattle.cvf_format.specs.Stretches.{Fragment, Event, packet, cut, is_cut, after_cuts, begins, goes_on, completes, follows, are_linked, stamps, all_equal, is_stretch, stretch_of, last_stretch, unit_of, is_complete, before_last}
@@ -18,12 +19,10 @@ use Rattle.cvf_format.specs.state.Assembly.{agree}
 -- ---- Booleans
 
 pub and_left : (a b : Bool) → (a && b) ≡ true → a ≡ true
-and_left true b e = refl
-and_left false b e = e
+and_left a b e = (and_parts a b e).0
 
 pub and_right : (a b : Bool) → (a && b) ≡ true → b ≡ true
-and_right true b e = e
-and_right false b e = absurd cc
+and_right a b e = (and_parts a b e).1
 
 regrouped : (b l f s a : Bool) → (b && (l && f) && (s && a)) ≡ ((b && l && s) && (f && a))
 regrouped false l f s a = refl

@@ -1,4 +1,5 @@
--- What an assembler keeps of the packets that are pushed.
+-- What an assembler keeps of the packets that are pushed. The file `Stretches.antt` says when a unit is broken, and when
+-- it is too long.
 use Rattle.std.specs.Prelude.{◌≡◌, ℕ, ◌+◌, ◌%◌, Bool, if◌then◌else◌, ℤ, List, [], ◌∷◌, ◌++◌, length, map, Option, None, Some}
 use Rattle.cvf_format.specs.declared.cvf.CvfView.{CvfView}
 use Rattle.cvf_format.specs.declared.piece.Mark.{Mark}
@@ -68,8 +69,7 @@ pub record StandsFor (a : Assembly) (events : List Event) : Type 0 where
   pub lost : a.lost ≡ lost_marks events
   pub unit : shown_unit a ≡ whole_unit events
 
--- The packet `f` was pushed. The answer says what becomes of the packet, how many packets were given up and why. The
--- file `Stretches.antt` says when a unit is broken (`is_stretch`), and when it is too long (`is_within`).
+-- The packet `f` was pushed. The answer says what becomes of the packet, how many packets were given up and why.
 pub record Pushes (old new : Assembly) (f : Fragment) (answer : Pushed) : Type 0 where
   pub stands : (events : List Event) → StandsFor old events → StandsFor new (events ++ packet f ∷ [])
   pub lost : (events : List Event) → StandsFor old events → answer.lost ≡ length (given_up (events ++ packet f ∷ []))

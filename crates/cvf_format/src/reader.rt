@@ -37,13 +37,6 @@ fn refused_by_format(pdu: &[u8], stated: u16) -> Option<Refusal>
     None
 }
 
-fn is_fragment(pdu: &[u8]) -> bool
-    requires { 29 ≤ length pdu.now }
-    ensures { result ≡ is_fragment_of pdu.now }
-{
-    bits_at(pdu, 28, 3, 5) == FU_A
-}
-
 /// Which fragment a packet carries, if its FU header is accepted.
 fn fragment_part(pdu: &[u8], stated: u16) -> Result<NalPart, Refusal>
     requires stated { IsStated pdu.now stated }
@@ -69,7 +62,7 @@ fn nal_part(pdu: &[u8], stated: u16) -> Result<NalPart, Refusal>
     requires { IsStated pdu.now stated }
     ensures { ReadsPart pdu.now stated result }
 {
-    if is_fragment(pdu) {
+    if bits_at(pdu, 28, 3, 5) == FU_A {
         return fragment_part(pdu, stated);
     }
     if is_single_type(bits_at(pdu, 28, 3, 5)) {

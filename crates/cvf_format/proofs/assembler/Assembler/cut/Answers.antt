@@ -1,5 +1,4 @@
-use Rattle.std.proofs.Common.{◌∙◌, sym, subst, ap, List, length, ◌++◌, ◌∷◌, []}
-use Rattle.cvf_format.specs.declared.piece.Mark.{Mark}
+use Rattle.std.proofs.Common.{◌∙◌, sym, subst, ap, length, ◌++◌, ◌∷◌, []}
 use Rattle.cvf_format.specs.Stretches.{cut}
 use Rattle.cvf_format.specs.Assembly.{Assembly, StandsFor}
 use Rattle.cvf_format.proofs.AssemblyLemmas.{cut_stands, cut_count}
