@@ -1,1 +1,2 @@
 pub mod Iec
+pub mod state

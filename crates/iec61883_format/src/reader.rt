@@ -1,9 +1,10 @@
 //! Reads IEC 61883-6 packets.
 
-ghost use Rattle.std.specs.Prelude.{◌≡◌, ◌+◌, ◌-◌, ◌*◌, ◌≤◌, ◌<◌, ◌==◌, length, Option, Some, None, IfNone, IfOk, IsOkAnd};
+ghost use Rattle.std.specs.Prelude.{◌≡◌, ◌≤◌, length, IfOk, IsOkAnd};
 ghost use Rattle.avtp_base.specs.Octets.{bits};
 ghost use Rattle.avtp_base.specs.Rows.{Reads, first_row};
-ghost use Rattle.iec61883_format.specs.Iec.{Iec, IsWritableIec, SpellsIec, block_rows, carrier_rows, cip_of, cip_refusal, data_size as data_size_of, dbs_of as quadlets_of, first_quadlet_rows, iec_of, iec_refusal, iec_shape, second_quadlet_rows, sets_reserved as is_reserved_set, stated_block, stated_data};
+ghost use Rattle.iec61883_format.specs.Iec.{Iec, IsWritableIec, SpellsIec, block_rows, cip_refusal, data_size as data_size_of, first_quadlet_rows, iec_of, iec_refusal, iec_shape, second_quadlet_rows, sets_reserved as is_reserved_set};
+ghost use Rattle.iec61883_format.specs.state.Headers.{AreStated, IsCarrierRefusal, IsCipOf, IsDbs};
 
 use crate::iec::{Cip, IecView};
 use avtp_base::octets::{bits_at, u16_at, u32_at};
@@ -16,9 +17,7 @@ const NO_DATA: u8 = 255;
 
 /// The number of quadlets in a data block, from the byte DBS.
 fn dbs_of(byte: u8) -> u16
-    ensures exact { result ≡ quadlets_of byte }
-    ensures some { 0 < result }
-    ensures few { result ≤ 256 }
+    ensures { IsDbs byte result }
 {
     if byte == 0 { 256 } else { u16::from(byte) }
 }
@@ -36,9 +35,7 @@ fn data_size(fdf: u8, size: u32) -> u32
 fn refused_by_carrier(pdu: &[u8], stated: u16) -> Option<Refusal>
     requires whole { 24 ≤ length pdu.now }
     requires stated { stated ≡ bits 20 0 16 pdu.now }
-    ensures exact { result ≡ first_row (carrier_rows pdu.now) }
-    ensures header { IfNone result (8 ≤ stated) }
-    ensures fits { IfNone result (24 + stated ≤ length pdu.now) }
+    ensures { IsCarrierRefusal pdu.now stated result }
 {
     if bits_at(pdu, 22, 0, 2) != 1 {
         return Some(refused(Field::Tag, 22));
@@ -87,9 +84,7 @@ fn refused_by_second_quadlet(pdu: &[u8]) -> Option<Refusal>
 
 /// The refusal of the stated length if `data_bytes` is not a whole number of data blocks of `block` bytes.
 fn refused_by_blocks(pdu: &[u8], data_bytes: u32, block: u32) -> Option<Refusal>
-    requires some { 0 < block }
-    requires all { data_bytes ≡ stated_data pdu.now }
-    requires block { block ≡ stated_block pdu.now }
+    requires { AreStated pdu.now data_bytes block }
     ensures { result ≡ first_row (block_rows pdu.now) }
 {
     if data_bytes % block != 0 {
@@ -101,9 +96,7 @@ fn refused_by_blocks(pdu: &[u8], data_bytes: u32, block: u32) -> Option<Refusal>
 /// The refusal of the CIP header or of the data blocks.
 fn refused_by_cip(pdu: &[u8], data_bytes: u32, block: u32) -> Option<Refusal>
     requires whole { 32 ≤ length pdu.now }
-    requires some { 0 < block }
-    requires all { data_bytes ≡ stated_data pdu.now }
-    requires block { block ≡ stated_block pdu.now }
+    requires stated { AreStated pdu.now data_bytes block }
     ensures { result ≡ cip_refusal pdu.now }
 {
     if let Some(refusal) = refused_by_first_quadlet(pdu) {
@@ -117,9 +110,7 @@ fn refused_by_cip(pdu: &[u8], data_bytes: u32, block: u32) -> Option<Refusal>
 
 fn cip(pdu: &[u8]) -> Cip
     requires { 32 ≤ length pdu.now }
-    ensures exact { result ≡ cip_of pdu.now }
-    ensures some { 0 < result.dbs }
-    ensures few { result.dbs ≤ 256 }
+    ensures { IsCipOf pdu.now result }
 {
     Cip {
         sid: bits_at(pdu, 24, 2, 6),

@@ -5,6 +5,7 @@ ghost use Rattle.avtp_base.specs.Layout.{Fits, spelling};
 ghost use Rattle.avtp_base.specs.Rows.{Writes};
 ghost use Rattle.iec61883_format.specs.declared.iec.Cip.{Cip as TheCip};
 ghost use Rattle.iec61883_format.specs.Iec.{IsWritableIec, SpellsIec, cip_layout, cip_tag, dbs_byte as byte_of_quadlets, iec_layout, iec_shape, iec_spelling, plain_iec};
+ghost use Rattle.iec61883_format.specs.state.Headers.{IsHeader};
 
 use crate::iec::{Cip, IecView};
 use avtp_base::Room;
@@ -52,8 +53,7 @@ fn cip_bytes(cip: Cip) -> [u8; 8]
 /// The 32 bytes before the data blocks.
 fn whole_header(view: &IecView<'_>) -> [u8; 32]
     requires { IsWritableIec (iec_shape view.now) }
-    ensures spelled { result ≡ spelling iec_layout (iec_shape view.now) }
-    ensures fits { Fits iec_layout (iec_shape view.now) }
+    ensures { IsHeader (iec_shape view.now) result }
 {
     let flags = format_flags(view);
     let valid = view.header.format_bits % 2;
