@@ -1,5 +1,5 @@
 -- The state of a device that keeps its items in memory.
-use Rattle.std.specs.Prelude.{ℕ, Bool, List}
+use Rattle.std.specs.Prelude.{◌≡◌, ℕ, Bool, false, List, []}
 use Rattle.device_rack.specs.declared.memory_device.MemoryDevice.{MemoryDevice}
 use Rattle.sample_schedule.specs.declared.shown.Shown.{Shown}
 use Rattle.device_rack.specs.Devices.{later}
@@ -19,3 +19,10 @@ failing_calls device = later device.calls device.fails.items
 -- the number of faults so far
 abbrev pub fault_count : MemoryDevice → ℕ
 fault_count device = device.faults
+
+-- the device has taken nothing, and its calls with these numbers will fail
+pub record IsNewMemory (numbers : List ℕ) (device : MemoryDevice) : Type 0 where
+  pub empty : kept_items device ≡ []
+  pub whole : is_cut device ≡ false
+  pub fails : failing_calls device ≡ later 0 numbers
+  pub faults : fault_count device ≡ 0

@@ -1,5 +1,5 @@
 -- Devices that are given items until they fail.
-use Rattle.std.specs.Prelude.{◌≡◌, ℕ, ⊤, List, MatchBool, Option, None, Some, if◌then◌else◌}
+use Rattle.std.specs.Prelude.{◌≡◌, ℕ, ⊤, true, List, MatchBool, Option, None, Some, if◌then◌else◌}
 use Rattle.sample_schedule.specs.declared.shown.Shown.{Shown}
 use Rattle.device_rack.specs.Handed.{WasHandedAll}
 use Rattle.device_rack.specs.Racks.{WasHanded}
@@ -27,3 +27,8 @@ Both R (Some x) (Some y) = R x y
 abbrev pub failed_in : {D : Type 0} → Option (Outlet D) → ℕ
 failed_in None = 0
 failed_in (Some outlet) = if outlet.live then 0 else 1
+
+-- the outlet has the given device, and is live
+pub record IsLive {D : Type 0} (given : D) (outlet : Outlet D) : Type 0 where
+  pub device : outlet.device ≡ given
+  pub live : outlet.live ≡ true

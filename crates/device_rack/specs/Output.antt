@@ -80,6 +80,7 @@ raw_behind silence before (batch ∷ batches) =
     silence_before silence before batch ++ batch.bytes ++ raw_behind silence (Some batch) batches
 
 -- The bytes that are written for the samples of items, with silence for samples that are missing between two batches.
--- Units and flags between the batches do not matter.
+-- Units and flags between the batches do not matter. The items of all files of one run are one list, so silence between
+-- two files follows the rule for silence between two batches.
 abbrev pub raw : Silence → List Shown → List ℕ
 raw silence items = raw_behind silence None (sample_batches items)

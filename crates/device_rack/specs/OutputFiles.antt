@@ -43,3 +43,8 @@ module _ {S : Type 0} where
   -- how many of the devices have failed
   abbrev pub failures_of : OutputFiles S → ℕ
   failures_of outputs = failed_in outputs.raw + failed_in outputs.units
+
+  -- the given devices, all of them live
+  pub record AreNew (samples : Option (RawDevice S)) (stream : Option (AnnexBDevice S)) (outputs : OutputFiles S) : Type 0 where
+    pub raw : AreLive samples (raw_outlet outputs)
+    pub units : AreLive stream (units_outlet outputs)

@@ -1,5 +1,6 @@
 -- Several devices, and what happens when an item is given to them.
-use Rattle.std.specs.Prelude.{◌≡◌, ℕ, ◌++◌, [], ◌∷◌, ◌↔◌, Bool, true, false, not, List, count_by, Contains, MatchBool, Option, Some, IfSome}
+use Rattle.std.specs.Prelude.{◌≡◌, ℕ, ◌+◌, ◌++◌, [], ◌∷◌, ◌↔◌, Bool, true, false, not, List, count_by, Contains, MatchBool, Option, Some, IfSome}
+use Rattle.std.specs.List.{AllZip}
 use Rattle.std.specs.Global.{Global}
 use Rattle.std.specs.declared.dyn_box.DynBox.{DynBox}
 use Rattle.avtp_base.specs.Faults.{Rose}
@@ -36,3 +37,8 @@ module _ {Kind : Type 0} {Value : Kind → Type 0} where
   -- the number of failed places
   abbrev pub failed_count : List (Place Kind Value) → ℕ
   failed_count places = count_by (λ place. not place.live) places
+
+  -- each live place is given an item, and this number of places fails
+  pub record HandsEach (took : DynBox Kind Global Value → List Shown → Type 0) (faults : DynBox Kind Global Value → ℕ) (failing : DynBox Kind Global Value → Option (List ℕ)) (shown : Shown) (before after : List (Place Kind Value)) (count : ℕ) : Type 0 where
+    pub places : AllZip (IsHanded took faults failing shown) before after
+    pub failures : failed_count after ≡ failed_count before + count

@@ -1,5 +1,5 @@
 -- What a device leaves in its sink.
-use Rattle.std.specs.Prelude.{◌≡◌, ℕ, Bool, false, List, ◌++◌, ⊤, Option, None, Some}
+use Rattle.std.specs.Prelude.{◌≡◌, ℕ, Bool, false, List, [], ◌++◌, ⊤, Option, None, Some}
 use Rattle.std.specs.List.{last_or}
 use mathlib.Core.List.{IsPrefix}
 use Rattle.avtp_base.specs.States.{SinkState}
@@ -52,6 +52,19 @@ module _ {S : Type 0} where
   -- holds what it held at `start`, followed by the units of the items as a byte stream.
   abbrev pub HasTakenUnits : (S → SinkState) → SinkState → AnnexBDevice S → List Shown → Type 0
   HasTakenUnits state start device items = annexb_failed device ≡ false → Appends start.held (state (annexb_sink device)).held (annexb items)
+
+  -- a device of raw samples that has taken nothing, with this sink and this kind of silence
+  pub record IsNewRaw (state : S → SinkState) (kept : S) (filling : Silence) (device : RawDevice S) : Type 0 where
+    pub new : HasTakenRaw state (state kept) device []
+    pub sink : raw_sink device ≡ kept
+    pub silence : silence_in device ≡ filling
+    pub failed : raw_failed device ≡ false
+
+  -- a device of units that has taken nothing, with this sink
+  pub record IsNewUnits (state : S → SinkState) (kept : S) (device : AnnexBDevice S) : Type 0 where
+    pub new : HasTakenUnits state (state kept) device []
+    pub sink : annexb_sink device ≡ kept
+    pub failed : annexb_failed device ≡ false
 
 -- a sink took bytes that begin with `bs` and are a prefix of `more`
 abbrev pub AppendsUpTo : SinkState → SinkState → List ℕ → List ℕ → Type 0

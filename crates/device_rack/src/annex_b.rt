@@ -18,14 +18,12 @@ pub struct AnnexBDevice<S> {
 }
 
 impl<S: Sink + Drop> AnnexBDevice<S> {
-    ghost use Rattle.std.specs.Prelude.{◌≡◌, [], false};
-    ghost use Rattle.device_rack.specs.Written.{HasTakenUnits, annexb_failed, annexb_sink};
+    ghost use Rattle.std.specs.Prelude.{◌≡◌};
+    ghost use Rattle.device_rack.specs.Written.{IsNewUnits, annexb_sink};
 
     /// A device that has taken nothing. Allocates nothing, and writes nothing.
     pub fn over(sink: S) -> Self
-        ensures new { HasTakenUnits S.state (S.state sink) result [] }
-        ensures sink { annexb_sink result ≡ sink }
-        ensures failed { annexb_failed result ≡ false }
+        ensures { IsNewUnits S.state sink result }
     {
         AnnexBDevice {
             sink,

@@ -54,18 +54,14 @@ fn copy_of(alloc: Global, shown: &Shown) -> Result<Shown, NoMemory>
 }
 
 impl MemoryDevice {
-    ghost use Rattle.std.specs.Prelude.{◌≡◌, [], ◌∷◌, ◌++◌, ◌↔◌, List, false, IfOk, IsTrue, Contains};
+    ghost use Rattle.std.specs.Prelude.{◌≡◌, [], ◌∷◌, ◌++◌, List};
     ghost use Rattle.sample_schedule.specs.declared.shown.Shown.{Shown as ShownValue};
-    ghost use Rattle.device_rack.specs.Devices.{later};
-    ghost use Rattle.device_rack.specs.MemoryDevice.{kept_items, is_cut, failing_calls, fault_count};
-    ghost use Rattle.device_rack.specs.state.MemoryDevice.{HasTaken};
+    ghost use Rattle.device_rack.specs.MemoryDevice.{IsNewMemory, kept_items};
+    ghost use Rattle.device_rack.specs.state.MemoryDevice.{CountsCall, HasTaken, KeepsCalls};
 
     /// A device that has taken nothing. `fails` lists the numbers of the calls that will fail. Allocates nothing.
     pub fn over(alloc: Global, fails: Vec<u64>) -> Self
-        ensures empty { kept_items result ≡ [] }
-        ensures whole { is_cut result ≡ false }
-        ensures fails { failing_calls result ≡ later 0 fails.items }
-        ensures faults { fault_count result ≡ 0 }
+        ensures { IsNewMemory fails.items result }
     {
         MemoryDevice {
             alloc,
@@ -86,11 +82,7 @@ impl MemoryDevice {
 
     /// Counts the next call, and says whether it fails.
     fn next_fails(&mut self) -> bool
-        ensures fails { IsTrue result ↔ Contains (failing_calls self.old) 1 }
-        ensures next { failing_calls self.new ≡ later 1 (failing_calls self.old) }
-        ensures kept { kept_items self.new ≡ kept_items self.old }
-        ensures cut { is_cut self.new ≡ is_cut self.old }
-        ensures faults { fault_count self.new ≡ fault_count self.old }
+        ensures { CountsCall self.old self.new result }
     {
         let fails = self.fails.as_slice();
         match self.calls.checked_add(1) {
@@ -105,8 +97,7 @@ impl MemoryDevice {
     /// Keeps a copy of an item, unless memory has run out.
     fn keep(&mut self, shown: &Shown)
         ensures taken { (items : List ShownValue) → HasTaken self.old items → HasTaken self.new (items ++ shown.now ∷ []) }
-        ensures fails { failing_calls self.new ≡ failing_calls self.old }
-        ensures faults { fault_count self.new ≡ fault_count self.old }
+        ensures calls { KeepsCalls self.old self.new }
     {
         if self.is_cut {
             return;

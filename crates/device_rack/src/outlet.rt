@@ -1,7 +1,7 @@
 //! A device that is given items until it fails.
 
 ghost use Rattle.std.specs.Prelude.{◌≡◌, false, true};
-ghost use Rattle.device_rack.specs.Outlets.{IsHandedTo};
+ghost use Rattle.device_rack.specs.Outlets.{IsHandedTo, IsLive};
 
 use crate::device::Device;
 use sample_schedule::Shown;
@@ -16,8 +16,7 @@ pub struct Outlet<D> {
 impl<D: Device> Outlet<D> {
     /// A live device.
     pub fn over(device: D) -> Self
-        ensures device { result.device ≡ device }
-        ensures live { result.live ≡ true }
+        ensures { IsLive device result }
     {
         Outlet { device, live: true }
     }

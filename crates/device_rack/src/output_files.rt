@@ -1,8 +1,8 @@
 //! The devices of a program: at most one that writes raw samples, and at most one that writes units.
 
-ghost use Rattle.std.specs.Prelude.{◌≡◌, ◌≤◌};
-ghost use Rattle.device_rack.specs.Outlets.{Both, IsHandedTo, failed_in};
+ghost use Rattle.device_rack.specs.Outlets.{Both, IsHandedTo};
 ghost use Rattle.device_rack.specs.OutputFiles.{AreLive};
+ghost use Rattle.device_rack.specs.state.Outlets.{CountsFailed};
 
 use crate::annex_b::AnnexBDevice;
 use crate::device::Device;
@@ -20,12 +20,11 @@ pub struct OutputFiles<S> {
 }
 
 impl<S: Sink + Drop> OutputFiles<S> {
-    ghost use Rattle.device_rack.specs.OutputFiles.{AreLive, raw_outlet, units_outlet};
+    ghost use Rattle.device_rack.specs.OutputFiles.{AreNew};
 
     /// The given devices, all of them live.
     pub fn over(raw: Option<RawDevice<S>>, units: Option<AnnexBDevice<S>>) -> Self
-        ensures raw { AreLive raw (raw_outlet result) }
-        ensures units { AreLive units (units_outlet result) }
+        ensures { AreNew raw units result }
     {
         OutputFiles {
             raw: live(raw),
@@ -72,8 +71,7 @@ fn hand<D: Device>(outlet: &mut Option<Outlet<D>>, shown: &Shown)
 
 /// 1 for a device that has failed, else 0.
 fn count<D: Device>(outlet: &Option<Outlet<D>>) -> u32
-    ensures count { result ≡ failed_in outlet.now }
-    ensures most { result ≤ 1 }
+    ensures { CountsFailed outlet.now result }
 {
     match outlet {
         Some(outlet) if !outlet.is_live() => 1,

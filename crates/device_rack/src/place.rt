@@ -1,8 +1,8 @@
 //! A place of a rack.
 
-ghost use Rattle.std.specs.Prelude.{◌+◌, ◌<◌, ◌^◌, length, ◌≡◌, false, not, ◌&&◌};
-ghost use Rattle.std.specs.List.{AllZip};
-ghost use Rattle.device_rack.specs.Racks.{IsHanded, failed_count};
+ghost use Rattle.std.specs.Prelude.{◌<◌, ◌^◌, length};
+ghost use Rattle.device_rack.specs.Racks.{HandsEach};
+ghost use Rattle.device_rack.specs.state.Racks.{HandsPlace};
 
 use crate::device::Device;
 use sample_schedule::Shown;
@@ -17,9 +17,7 @@ pub struct Place {
 
 /// Gives an item to the place if it is live. Returns whether the place failed in this call.
 fn hand(place: &mut Place, shown: &Shown) -> bool
-    ensures handed { IsHanded (λ device. took device) (λ device. faults device) (λ device. failing device) shown.now place.old place.new }
-    ensures stays { place.old.live ≡ false → place.new.live ≡ false }
-    ensures turned { result ≡ (place.old.live && not place.new.live) }
+    ensures { HandsPlace (λ device. took device) (λ device. faults device) (λ device. failing device) shown.now place.old place.new result }
 {
     if !place.live {
         return false;
@@ -31,8 +29,7 @@ fn hand(place: &mut Place, shown: &Shown) -> bool
 /// Gives an item to each live place, in the order of the places. Returns how many places failed in this call.
 pub fn hand_each(places: &mut [Place], shown: &Shown) -> u32
     requires { length places.old < 2 ^ 32 }
-    ensures places { AllZip (IsHanded (λ device. took device) (λ device. faults device) (λ device. failing device) shown.now) places.old places.new }
-    ensures failures { failed_count places.new ≡ failed_count places.old + result }
+    ensures { HandsEach (λ device. took device) (λ device. faults device) (λ device. failing device) shown.now places.old places.new result }
 {
     let mut failures = 0;
     for place in places.iter_mut() {

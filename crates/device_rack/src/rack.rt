@@ -13,9 +13,8 @@ pub struct Rack {
 }
 
 impl Rack {
-    ghost use Rattle.std.specs.Prelude.{◌≡◌, ◌+◌, ◌<◌, ◌^◌, true, length, All};
-    ghost use Rattle.std.specs.List.{AllZip};
-    ghost use Rattle.device_rack.specs.Racks.{IsHanded, places_of, live_count, failed_count};
+    ghost use Rattle.std.specs.Prelude.{◌≡◌, ◌<◌, ◌^◌, true, length, All};
+    ghost use Rattle.device_rack.specs.Racks.{HandsEach, places_of, live_count, failed_count};
 
     /// A rack of the given places, which are all live. The number of places is less than 2^32. Allocates nothing.
     pub fn over(places: Vec<Place>) -> Self
@@ -49,8 +48,7 @@ impl Rack {
     /// Gives an item to each live device, in the order of the places. Returns how many places failed in this call. A
     /// place fails if its device returns `Failed`. From then on, the place is given nothing.
     pub fn hand(&mut self, shown: &Shown) -> u32
-        ensures places { AllZip (IsHanded (λ device. took device) (λ device. faults device) (λ device. failing device) shown.now) (places_of self.old) (places_of self.new) }
-        ensures failures { failed_count (places_of self.new) ≡ failed_count (places_of self.old) + result }
+        ensures { HandsEach (λ device. took device) (λ device. faults device) (λ device. failing device) shown.now (places_of self.old) (places_of self.new) result }
     {
         hand_each(self.places.as_mut_slice(), shown)
     }

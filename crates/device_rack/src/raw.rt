@@ -13,7 +13,8 @@ use sample_schedule::Shown;
 /// Units and flags add nothing. Between two batches of samples, the device writes silence from the end of the first
 /// batch to the beginning of the second, even if there are units or flags between the batches. The length of the
 /// silence is rounded to whole samples of the first batch's line, with half a sample rounded up, and is at most
-/// 16,777,216 bytes. If the batches overlap, there is no silence. Nothing is buffered: all bytes of an item are in the
+/// 16,777,216 bytes. If the batches overlap, there is no silence. The items of all files of one run are one list, so
+/// silence between two files follows the rule for silence between two batches. Nothing is buffered: all bytes of an item are in the
 /// sink when `take` returns `Ok`. As long as no `take` has failed, the sink holds what it held when the device was
 /// made, followed by the whole output. The first `take` that fails writes only a prefix of its item's output.
 #[derive(Drop)]
@@ -25,15 +26,12 @@ pub struct RawDevice<S> {
 }
 
 impl<S: Sink + Drop> RawDevice<S> {
-    ghost use Rattle.std.specs.Prelude.{◌≡◌, [], false};
-    ghost use Rattle.device_rack.specs.Written.{HasTakenRaw, raw_failed, raw_sink, silence_in};
+    ghost use Rattle.std.specs.Prelude.{◌≡◌};
+    ghost use Rattle.device_rack.specs.Written.{IsNewRaw, raw_sink};
 
     /// A device that has taken nothing. Allocates nothing, and writes nothing.
     pub fn over(sink: S, silence: Silence) -> Self
-        ensures new { HasTakenRaw S.state (S.state sink) result [] }
-        ensures sink { raw_sink result ≡ sink }
-        ensures silence { silence_in result ≡ silence }
-        ensures failed { raw_failed result ≡ false }
+        ensures { IsNewRaw S.state sink silence result }
     {
         RawDevice {
             sink,

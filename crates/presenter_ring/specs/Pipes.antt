@@ -30,6 +30,19 @@ capacity_of pipe = pipe.capacity
 abbrev pub known_free_of : Pipe → ℕ
 known_free_of pipe = known_free pipe.front.producer
 
+-- a ring has room for 1 to 256 items
+pub record IsCapacity (capacity : ℕ) : Type 0 where
+  pub some : 1 ≤ capacity
+  pub most : capacity ≤ 256
+
+-- The pipe is empty and all slots of its ring are free. The receiver has given nothing, and has not ended.
+pub record IsEmptyPipe (slots : ℕ) (pipe : Pipe) : Type 0 where
+  pub empty : waiting_in pipe ≡ []
+  pub live : ended_with pipe ≡ None
+  pub given : given_to pipe ≡ 0
+  pub capacity : capacity_of pipe ≡ slots
+  pub free : known_free_of pipe ≡ slots
+
 -- all items that the ring's producer has pushed
 abbrev pub pushed_by : Pipe → List Shown
 pushed_by pipe = sent pipe.front.producer

@@ -3,3 +3,4 @@ pub mod Backs
 pub mod Fronts
 pub mod Pipes
 pub mod Pulls
+pub mod Presented

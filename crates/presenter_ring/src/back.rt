@@ -1,9 +1,8 @@
 //! The presenter's side of a ring.
 
-ghost use Rattle.std.specs.Prelude.{◌≡◌, ◌++◌, ◌∷◌, [], List, length};
-ghost use Rattle.avtp_base.specs.Faults.{IsCounted};
+ghost use Rattle.std.specs.Prelude.{◌≡◌, length};
 ghost use Rattle.rtrb.specs.Ring.{received};
-ghost use Rattle.sample_schedule.specs.declared.shown.Shown.{Shown as ShownValue};
+ghost use Rattle.presenter_ring.specs.state.Presented.{IsPresented};
 
 use crate::gate::{Gate, Side};
 use crate::presenter::Presenter;
@@ -25,7 +24,7 @@ pub struct Back {
 impl Back {
     ghost use Rattle.std.specs.Prelude.{◌+◌, ◌<◌, ◌^◌, length};
     ghost use Rattle.rtrb.specs.Ring.{received};
-    ghost use Rattle.presenter_ring.specs.state.Backs.{PresentsNext, TakesBackTurn};
+    ghost use Rattle.presenter_ring.specs.state.Backs.{HasSpace, PresentsNext, TakesBackTurn};
 
     /// Pops one item and presents it. Returns whether there was an item in the ring.
     fn present_next<P: Presenter, G: Gate>(
@@ -55,8 +54,7 @@ impl Back {
         gate: &G,
         most: usize,
     ) -> Result<(), Failed>
-        requires some { 0 < most }
-        requires room { length (received self.old.consumer) + most < 2 ^ 64 }
+        requires { HasSpace self.old most }
         ensures { TakesBackTurn P.handed P.faults presenter.old presenter.new self.old self.new result }
     {
         let pops = self.pops;
@@ -80,8 +78,7 @@ fn present<P: Presenter>(
     shown: Shown,
     samples: &mut Producer<Bytes>,
 ) -> Result<(), Failed>
-    ensures handed { (begun : P) (items : List ShownValue) → P.handed begun presenter.old items → P.handed begun presenter.new (items ++ shown ∷ []) }
-    ensures counted { IsCounted (P.faults presenter.old) (P.faults presenter.new) result }
+    ensures { IsPresented P.handed P.faults presenter.old presenter.new shown result }
 {
     presenter.present(&shown)?;
     if let Shown::Present(batch) = shown {

@@ -30,7 +30,7 @@ pub struct Front {
 
 impl Front {
     ghost use Rattle.std.specs.Prelude.{◌≡◌, ◌+◌, ◌<◌, ◌≤◌, None};
-    ghost use Rattle.presenter_ring.specs.state.Fronts.{CanFeed, Feeds, Takes, TakesFrontTurn};
+    ghost use Rattle.presenter_ring.specs.state.Fronts.{CanFeed, CanTurn, Feeds, Takes, TakesFrontTurn};
 
     /// The item in `hand`. If `hand` is empty, returns the receiver's next item, or `None` if the receiver has ended.
     #[inline(always)]
@@ -83,8 +83,7 @@ impl Front {
     /// After the first push, the turn ends as soon as `may_wait` returns `true`, so that the presenter gets the pushed
     /// items without delay.
     pub fn take_turn<R: Receiver, G: Gate>(&mut self, receiver: &mut R, gate: &G, most: usize)
-        requires some { 0 < most }
-        requires ready { CanFeed R.left R.ended receiver.old self.old }
+        requires { CanTurn R.left R.ended receiver.old self.old most }
         ensures { TakesFrontTurn R.gave R.left R.ended receiver.old receiver.new self.old self.new }
     {
         for turn in 0..most {

@@ -43,19 +43,14 @@ impl Pipe {
     ghost use Rattle.std.specs.Prelude.{◌≡◌, ◌+◌, ◌*◌, ◌<◌, ◌≤◌, ◌^◌, [], ◌↔◌, None, length, IsTrue, IfSome, IfOk};
     ghost use Rattle.avtp_base.specs.Faults.{Rose};
     ghost use Rattle.presenter_ring.specs.state.Fronts.{CanFeed};
-    ghost use Rattle.presenter_ring.specs.Pipes.{ring_of, waiting_in, ended_with, given_to, capacity_of, known_free_of, work, IsRound, IsDrained, EndsWith};
+    ghost use Rattle.presenter_ring.specs.Pipes.{ring_of, ended_with, given_to, capacity_of, work, IsCapacity, IsEmptyPipe, IsRound, IsDrained, EndsWith};
     ghost use Rattle.presenter_ring.specs.state.Pipes.{Advances, PresentsHand, TakesTurns};
     ghost use Rattle.presenter_ring.specs.Pulls.{items_of};
 
     /// An empty pipe whose ring has room for 1 to 256 items. Returns `NoMemory` if the ring cannot be allocated.
     pub fn begin(alloc: Global, capacity: u32) -> Result<Self, NoMemory>
-        requires some { 1 ≤ capacity }
-        requires most { capacity ≤ 256 }
-        ensures empty { IfOk result (λ pipe. waiting_in pipe ≡ []) }
-        ensures live { IfOk result (λ pipe. ended_with pipe ≡ None) }
-        ensures given { IfOk result (λ pipe. given_to pipe ≡ 0) }
-        ensures capacity { IfOk result (λ pipe. capacity_of pipe ≡ capacity) }
-        ensures free { IfOk result (λ pipe. known_free_of pipe ≡ capacity) }
+        requires { IsCapacity capacity }
+        ensures { IfOk result (λ pipe. IsEmptyPipe capacity pipe) }
     {
         let (producer, consumer) = RingBuffer::new(alloc, capacity as usize)?;
         let (spent, samples) = RingBuffer::new(alloc, capacity as usize)?;

@@ -1,9 +1,7 @@
 //! The turns of both sides, at the same time.
 
-ghost use Rattle.std.specs.Prelude.{◌+◌, ◌<◌, ◌^◌, length};
-ghost use Rattle.rtrb.specs.Ring.{received};
-ghost use Rattle.presenter_ring.specs.state.Backs.{TakesBackTurn};
-ghost use Rattle.presenter_ring.specs.state.Fronts.{CanFeed, TakesFrontTurn};
+ghost use Rattle.presenter_ring.specs.state.Backs.{HasSpace, TakesBackTurn};
+ghost use Rattle.presenter_ring.specs.state.Fronts.{CanTurn, TakesFrontTurn};
 
 use crate::back::Back;
 use crate::front::Front;
@@ -23,22 +21,19 @@ pub fn both_turns<T: Threads + Sync, R: Receiver, P: Presenter, G: Gate>(
     gate: &G,
     most: usize,
 ) -> Result<(), Failed>
-    requires some { 0 < most }
-    requires ready { CanFeed R.left R.ended receiver.old front.old }
-    requires space { length (received back.old.consumer) + most < 2 ^ 64 }
+    requires ready { CanTurn R.left R.ended receiver.old front.old most }
+    requires space { HasSpace back.old most }
     ensures fed { TakesFrontTurn R.gave R.left R.ended receiver.old receiver.new front.old front.new }
     ensures presented { TakesBackTurn P.handed P.faults presenter.old presenter.new back.old back.new result }
 {
     let ((), presented) = join_mut(
         rt,
         &mut ||
-            requires some { 0 < most }
-            requires ready { CanFeed R.left R.ended receiver.now front.now }
+            requires { CanTurn R.left R.ended receiver.now front.now most }
             ensures { TakesFrontTurn R.gave R.left R.ended receiver.entry.now receiver.exit.now front.entry.now front.exit.now }
         { front.take_turn(receiver, gate, most) },
         &mut || -> Result<(), Failed>
-            requires some { 0 < most }
-            requires space { length (received back.now.consumer) + most < 2 ^ 64 }
+            requires { HasSpace back.now most }
             ensures { TakesBackTurn P.handed P.faults presenter.entry.now presenter.exit.now back.entry.now back.exit.now result }
         { back.take_turn(presenter, gate, most) },
     );

@@ -1,10 +1,15 @@
 -- Only private functions and proofs use these definitions. The presenter's side of a ring.
-use Rattle.std.specs.Prelude.{◌≡◌, ℕ, ◌+◌, ◌<◌, ◌++◌, Bool, List, [], length, IfOk, MatchBool, OnErr, Result}
+use Rattle.std.specs.Prelude.{◌≡◌, ℕ, ◌+◌, ◌<◌, ◌^◌, ◌++◌, Bool, List, [], length, IfOk, MatchBool, OnErr, Result}
 use Rattle.avtp_base.specs.declared.failed.Failed.{Failed}
 use Rattle.avtp_base.specs.Faults.{IsCounted}
 use Rattle.rtrb.specs.Ring.{received, known_items, SameConsumer}
 use Rattle.sample_schedule.specs.declared.shown.Shown.{Shown}
 use Rattle.presenter_ring.specs.declared.back.Back.{Back}
+
+-- the presenter's side may take a turn of at least one item, and its count of items stays below 2^64
+pub record HasSpace (back : Back) (most : ℕ) : Type 0 where
+  pub some : 0 < most
+  pub room : length (received back.consumer) + most < 2 ^ 64
 
 -- What the presenter's side did. `handed` tells which items a presenter got.
 pub record HasPresented {P : Type 0} (handed : P → P → List Shown → Type 0) (presenter presenter' : P) (before after : Back) : Type 0 where

@@ -1,5 +1,5 @@
 -- Only private functions and proofs use these definitions. The receiver's side of a ring.
-use Rattle.std.specs.Prelude.{◌≡◌, ℕ, ◌+◌, ◌≤◌, ◌^◌, ◌++◌, Bool, cond, false, List, length, Option, None, IsSome, MatchOption}
+use Rattle.std.specs.Prelude.{◌≡◌, ℕ, ◌+◌, ◌<◌, ◌≤◌, ◌^◌, ◌++◌, Bool, cond, false, List, length, Option, None, IsSome, MatchOption}
 use Rattle.std.specs.Option.{option_to_list}
 use Rattle.rtrb.specs.Ring.{sent, known_free, SameProducer}
 use Rattle.sample_schedule.specs.declared.shown.Shown.{Shown}
@@ -13,6 +13,11 @@ use Rattle.presenter_ring.specs.Fronts.{hand_of, ended_of}
 pub record CanFeed {R : Type 0} (left : R → ℕ) (ended : R → Option Pull) (receiver : R) (front : Front) : Type 0 where
   pub live : ended_of front ≡ None → ended receiver ≡ None
   pub room : front.given + left receiver ≤ 2 ^ 62
+
+-- the receiver's side may take a turn of at least one item
+pub record CanTurn {R : Type 0} (left : R → ℕ) (ended : R → Option Pull) (receiver : R) (front : Front) (most : ℕ) : Type 0 where
+  pub some : 0 < most
+  pub ready : CanFeed left ended receiver front
 
 -- What the receiver's side did. `gave` tells which items a receiver gave, and `left` tells how many items it can still
 -- give at most. If the receiver has ended, `ended` tells its final answer.
