@@ -1,11 +1,11 @@
 //! A shelf of real files.
 
-ghost use Rattle.std.specs.Prelude.{◌≡◌, ◌<◌, ◌≤◌, ℕ, None, length, IsSome, IfOk};
-ghost use Rattle.std.specs.Io.KnownBytes.{ReadConsumes, WriteAppends};
+ghost use Rattle.std.specs.Prelude.{◌≡◌, ◌<◌, ℕ, None, length, IsSome};
 ghost use Rattle.std.proofs.Common.{rules};
 ghost use Rattle.avtp_files.specs.Entries.{entry_at};
+ghost use Rattle.avtp_files.specs.Parts.{WritesPart};
 ghost use Rattle.avtp_files.specs.FileShelf.{known_at, real_slots};
-ghost use Rattle.avtp_files.specs.state.FileShelf.{real_state};
+ghost use Rattle.avtp_files.specs.state.FileShelf.{ReadsOpen, real_state};
 
 use crate::fault_teller::FaultTeller;
 use crate::file_identity::{FileIdentity, STANDARD_OUTPUT, already_used, identity_of};
@@ -202,9 +202,7 @@ fn read_open<F: Read + Drop>(
     buf: &mut [u8],
 ) -> io::Result<usize>
     requires { IsSome (entry_at live.old.entries.items slot.0) }
-    ensures within { IfOk result (λ n. n ≤ length buf.new) }
-    ensures moved { ReadConsumes (known_at F.remaining live.old slot.0) (known_at F.remaining live.new slot.0) result buf.new }
-    ensures same { (k : ℕ) → real_slots live.new k ≡ real_slots live.old k }
+    ensures { ReadsOpen (known_at F.remaining live.old slot.0) (known_at F.remaining live.new slot.0) (real_slots live.old) (real_slots live.new) result buf.new }
 {
     let Some(mut open) = live.take(slot) else {
         unreachable!()
@@ -221,9 +219,7 @@ fn write_open<F: Write + Drop>(
     piece: &[u8],
 ) -> io::Result<usize>
     requires { IsSome (entry_at live.old.entries.items slot.0) }
-    ensures some { IfOk result (λ n. 0 < n) }
-    ensures within { IfOk result (λ n. n ≤ length piece.now) }
-    ensures taken { WriteAppends (known_at F.contents live.old slot.0) (known_at F.contents live.new slot.0) result piece.now }
+    ensures part { WritesPart (known_at F.contents live.old slot.0) (known_at F.contents live.new slot.0) piece.now result }
     ensures same { (k : ℕ) → real_slots live.new k ≡ real_slots live.old k }
 {
     let Some(mut open) = live.take(slot) else {

@@ -1,7 +1,7 @@
 //! A sink over a real file that is written from its start.
 
-ghost use Rattle.std.specs.Prelude.{◌≡◌, ◌≤◌, ◌<◌, None, length, IfOk, option_and_then};
-ghost use Rattle.std.specs.Io.KnownBytes.{WriteAppends};
+ghost use Rattle.std.specs.Prelude.{◌≡◌, ◌<◌, None, length, option_and_then};
+ghost use Rattle.avtp_files.specs.Parts.{WritesPart};
 
 use crate::fault_teller::FaultTeller;
 use crate::file_identity::{STANDARD_OUTPUT, already_used, identity_of};
@@ -79,9 +79,7 @@ impl<R: Files + Eprint + Alloc> FileSink<R> {
     // Makes or empties the file if that was not done yet, and then writes at least one byte to it. If the file could
     // not be made, the next write tries again to make it.
     fn write_some(&mut self, piece: &[u8]) -> io::Result<usize>
-        ensures some { IfOk result (λ n. 0 < n) }
-        ensures within { IfOk result (λ n. n ≤ length piece.now) }
-        ensures taken { WriteAppends (option_and_then R.File.contents self.old.file) (option_and_then R.File.contents self.new.file) result piece.now }
+        ensures part { WritesPart (option_and_then R.File.contents self.old.file) (option_and_then R.File.contents self.new.file) piece.now result }
         ensures faults { self.new.faults ≡ self.old.faults }
     {
         if self.file.is_none() {

@@ -1,7 +1,7 @@
 //! Open files by slot number.
 
-ghost use Rattle.std.specs.Prelude.{◌≡◌, ◌^◌, ◌<◌, ◌≤◌, ℕ, None, [], vec_len, IfOk, option_copied};
-ghost use Rattle.avtp_files.specs.Entries.{entry_at, SetsEntry};
+ghost use Rattle.std.specs.Prelude.{◌≡◌, ◌^◌, ◌<◌, ◌≤◌, [], vec_len, option_copied};
+ghost use Rattle.avtp_files.specs.Entries.{entry_at, FindsFree, SetsEntry, TakesEntry};
 
 use crate::shelf::Slot;
 use avtp_base::NoMemory;
@@ -25,9 +25,7 @@ impl<T: Drop> Slots<T> {
 
     /// A slot that is not live.
     pub fn free_slot(&mut self) -> Result<Slot, NoMemory>
-        ensures free { IfOk result (λ slot. entry_at self.old.entries.items slot.0 ≡ None) }
-        ensures inside { IfOk result (λ slot. slot.0 < vec_len self.new.entries) }
-        ensures same { (k : ℕ) → entry_at self.new.entries.items k ≡ entry_at self.old.entries.items k }
+        ensures { FindsFree self.old.entries.items self.new.entries.items (vec_len self.new.entries) result }
     {
         if let Some(free) = self.entries.iter().position(|entry| entry.is_none()) {
             return Ok(Slot(free as u32));
@@ -52,9 +50,7 @@ impl<T: Drop> Slots<T> {
     /// Takes the entry out of a slot, and leaves the slot free.
     pub fn take(&mut self, slot: Slot) -> Option<T>
         requires { slot.0 < vec_len self.old.entries }
-        ensures entry { result ≡ entry_at self.old.entries.items slot.0 }
-        ensures taken { SetsEntry self.old.entries.items self.new.entries.items slot.0 None }
-        ensures len { vec_len self.new.entries ≡ vec_len self.old.entries }
+        ensures { TakesEntry self.old.entries.items self.new.entries.items (vec_len self.old.entries) (vec_len self.new.entries) slot.0 result }
     {
         self.entries[slot.0 as usize].take()
     }

@@ -1,5 +1,5 @@
 -- What contracts see of a shelf in memory.
-use Rattle.std.specs.Prelude.{◌≡◌, ◌↔◌, ℕ, List, Contains, Result, IfOk, IfSome, IsErr, IsErrOf, length, min}
+use Rattle.std.specs.Prelude.{◌≡◌, ◌↔◌, ◌^◌, ◌-◌, ℕ, List, [], None, Contains, Result, IfOk, IfSome, IsErr, IsErrOf, length, min}
 use Rattle.avtp_base.specs.declared.failed.Failed.{Failed}
 use Rattle.avtp_base.specs.declared.failed.OpenFault.{OpenFault}
 use Rattle.avtp_base.specs.declared.failed.OpenFault.TheVariants as open_fault
@@ -81,3 +81,28 @@ pub record WritesByNumber (old new : MemoryShelf) (piece : List ℕ) (result : R
 pub record KeepsNumber (old new : MemoryShelf) : Type 0 where
   pub calls : calls new ≡ calls old
   pub most : most new ≡ most old
+
+-- ---- shelves that are made
+
+-- A new shelf of these files: no file is open, no name was asked for, and no call or fault was counted. The calls whose
+-- numbers are in `failing` fail. No number limits how many bytes a call moves.
+pub record IsNew (shelf : MemoryShelf) (named : Files) (failing : List ℕ) : Type 0 where
+  pub files : files_of shelf ≡ named
+  pub closed : (k : ℕ) → slots_of shelf k ≡ None
+  pub asked : asked_of shelf []
+  pub fails : failing_calls shelf ≡ failing
+  pub calls : calls shelf ≡ 0
+  pub most : most shelf ≡ 2 ^ 64 - 1
+  pub reading : reading_count shelf ≡ 0
+  pub writing : writing_count shelf ≡ 0
+
+-- A call of the new shelf moves at most n bytes. Everything else is as in the old shelf.
+pub record SetsMost (old new : MemoryShelf) (n : ℕ) : Type 0 where
+  pub files : files_of new ≡ files_of old
+  pub slots : (k : ℕ) → slots_of new k ≡ slots_of old k
+  pub asked : new.asked ≡ old.asked
+  pub fails : failing_calls new ≡ failing_calls old
+  pub calls : calls new ≡ calls old
+  pub most : most new ≡ n
+  pub reading : reading_count new ≡ reading_count old
+  pub writing : writing_count new ≡ writing_count old

@@ -1,5 +1,5 @@
 -- What contracts see of a sink in memory.
-use Rattle.std.specs.Prelude.{◌≡◌, ℕ, List, Contains, Result, IfOk, IsErr, length, min}
+use Rattle.std.specs.Prelude.{◌≡◌, ◌^◌, ◌-◌, ℕ, List, [], Contains, Result, IfOk, IsErr, length, min}
 use Rattle.avtp_base.specs.declared.failed.Failed.{Failed}
 use Rattle.avtp_memory.specs.declared.memory_sink.MemorySink.{MemorySink}
 use Rattle.avtp_memory.specs.Calls.{next_number}
@@ -34,3 +34,20 @@ pub record TakesByNumber (old new : MemorySink) (piece : List ℕ) (result : Res
   pub next : calls new ≡ next_number (calls old)
   pub fails : failing_calls new ≡ failing_calls old
   pub most : most new ≡ most old
+
+-- A new sink: it holds no bytes, and no call or fault was counted. The calls whose numbers are in `failing` fail. No
+-- number limits how many bytes a call takes.
+pub record IsNew (sink : MemorySink) (failing : List ℕ) : Type 0 where
+  pub empty : kept sink ≡ []
+  pub fails : failing_calls sink ≡ failing
+  pub calls : calls sink ≡ 0
+  pub most : most sink ≡ 2 ^ 64 - 1
+  pub faults : fault_count sink ≡ 0
+
+-- A call of the new sink takes at most n bytes. Everything else is as in the old sink.
+pub record SetsMost (old new : MemorySink) (n : ℕ) : Type 0 where
+  pub kept : kept new ≡ kept old
+  pub fails : failing_calls new ≡ failing_calls old
+  pub calls : calls new ≡ calls old
+  pub most : most new ≡ n
+  pub faults : fault_count new ≡ fault_count old

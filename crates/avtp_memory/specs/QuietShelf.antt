@@ -1,5 +1,5 @@
 -- What contracts see of a quiet shelf.
-use Rattle.std.specs.Prelude.{◌≡◌, ◌&&◌, ℕ, Bool, List, [], Option, Some, Result, Ok, IfOk, IfSome, OnErr, OnOk, length, min}
+use Rattle.std.specs.Prelude.{◌≡◌, ◌&&◌, ℕ, Bool, IsTrue, List, [], Option, Some, None, Result, Ok, IfOk, IfSome, OnErr, OnOk, length, min}
 use Rattle.avtp_base.specs.declared.failed.Failed.{Failed}
 use Rattle.avtp_base.specs.declared.failed.OpenFault.{OpenFault}
 use Rattle.avtp_files.specs.declared.shelf.Slot.{Slot}
@@ -73,3 +73,12 @@ pub record WritesQuietly (old new : QuietShelf) (k : ℕ) (piece : List ℕ) (re
   pub whole : result ≡ Ok (length piece)
   pub kept : KeepsPiece old new (name_in (slots_of old) k) piece
   pub room : room_of new ≡ room_of old
+
+-- A new shelf of these files: all written bytes were kept, no file is open, and no name was asked for. A file that is
+-- made has room for `size` bytes.
+pub record IsNew (shelf : QuietShelf) (named : Files) (size : ℕ) : Type 0 where
+  pub files : kept_files shelf ≡ named
+  pub all : IsTrue (keeps_all shelf)
+  pub room : room_of shelf ≡ size
+  pub closed : (k : ℕ) → slots_of shelf k ≡ None
+  pub asked : asked_of shelf []

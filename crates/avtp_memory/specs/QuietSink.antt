@@ -1,5 +1,5 @@
 -- What contracts see of a quiet sink.
-use Rattle.std.specs.Prelude.{◌≡◌, ◌↔◌, ℕ, Bool, IsTrue, List, Option, Result, Ok, length}
+use Rattle.std.specs.Prelude.{◌≡◌, ◌↔◌, ℕ, Bool, IsTrue, List, [], Option, Result, Ok, length}
 use Rattle.avtp_base.specs.declared.failed.Failed.{Failed}
 use Rattle.avtp_memory.specs.declared.quiet_sink.QuietSink.{QuietSink}
 use Rattle.avtp_memory.specs.Room.{kept_within, told_while, FitsRoom}
@@ -28,3 +28,9 @@ pub record TakesQuietly (old new : QuietSink) (piece : List ℕ) (result : Resul
   pub all : IsTrue (keeps_all new) ↔ IsTrue (keeps_all old) × FitsRoom (room_of old) (kept old) piece
   pub room : room_of new ≡ room_of old
   pub kept : kept new ≡ kept_within (room_of old) (kept old) piece
+
+-- A new sink: it holds no bytes, and has kept all written bytes. It keeps at most `size` bytes.
+pub record IsNew (sink : QuietSink) (size : ℕ) : Type 0 where
+  pub empty : kept sink ≡ []
+  pub all : IsTrue (keeps_all sink)
+  pub room : room_of sink ≡ size

@@ -1,7 +1,7 @@
 //! Counts the calls to an object in memory, and tells which of the calls fail on purpose.
 
-ghost use Rattle.std.specs.Prelude.{◌≡◌, ◌↔◌, Contains, IsTrue};
-ghost use Rattle.avtp_memory.specs.Calls.{next_number};
+ghost use Rattle.std.specs.Prelude.{◌≡◌};
+ghost use Rattle.avtp_memory.specs.state.Calls.{CountsNext};
 
 /// Numbers the calls from 1, and holds the numbers of the calls that fail. The call number stops at the greatest `u64`.
 #[derive(Debug, Drop)]
@@ -20,9 +20,7 @@ impl Calls {
 
     /// Counts the next call, and returns whether it fails.
     pub fn next_fails(&mut self) -> bool
-        ensures fails { IsTrue result ↔ Contains self.old.fails.items (next_number self.old.count) }
-        ensures count { self.new.count ≡ next_number self.old.count }
-        ensures same { self.new.fails.items ≡ self.old.fails.items }
+        ensures { CountsNext self.old.fails.items self.new.fails.items self.old.count self.new.count result }
     {
         self.count = self.count.saturating_add(1);
         self.fails.contains(&self.count)

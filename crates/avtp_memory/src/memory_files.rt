@@ -22,18 +22,15 @@ pub struct MemoryFiles {
 }
 
 impl MemoryFiles {
-    ghost use Rattle.std.specs.Prelude.{◌≡◌, ◌≤◌, ◌<◌, ℕ, true, [], None, Some, min, take, length, option_copied, option_map, IsSome, IfSome, IfOk, OnOk, OnErr, IsErrOf};
-    ghost use Rattle.std.specs.Io.KnownBytes.{Consumes, IsAtEnd};
-    ghost use Rattle.avtp_base.specs.Files.{file_of, left_in, name_in, IsMissing, KeepsFiles, KeepsOthers, KeepsSlots, KeepsOtherFiles, KeepsOthersFiles, PutsFile, IsOpened, IsMade, AppendsTo};
-    ghost use Rattle.avtp_memory.specs.MemoryFiles.{files_in, slots_in, room_in, KeepsPart};
+    ghost use Rattle.std.specs.Prelude.{◌≡◌, ◌<◌, true, Some, length, option_copied, option_map, IsSome};
+    ghost use Rattle.avtp_memory.specs.MemoryFiles.{files_in, slots_in};
     ghost use Rattle.avtp_memory.specs.NamedFiles.{bytes_under};
+    ghost use Rattle.avtp_memory.specs.state.MemoryFiles.{AppendsPiece, FreesSlot, HoldsFiles, KeepsFront, MakesFile, OpensFile, ReadsFile};
 
     /// Files in memory, each under its name, and none of them open. A file that is made gets memory for `room` bytes.
     /// If two files have the same name, the first counts.
     pub fn over(alloc: Global, files: Vec<(String, Vec<u8>)>, room: usize) -> Self
-        ensures files { files_in result ≡ bytes_under files.items }
-        ensures closed { (k : ℕ) → slots_in result k ≡ None }
-        ensures room { room_in result ≡ room }
+        ensures { HoldsFiles result (bytes_under files.items) room }
     {
         MemoryFiles {
             alloc,
@@ -52,14 +49,7 @@ impl MemoryFiles {
 
     /// Opens a file for reading, or returns `Missing` if no file has the name.
     pub fn open(&mut self, name: &str) -> Result<Slot, OpenFault>
-        ensures opened { IfOk result (λ slot. IsOpened (Some (files_in self.old)) (slots_in self.new slot.0) name.now) }
-        ensures fresh { IfOk result (λ slot. slots_in self.old slot.0 ≡ None) }
-        ensures others { IfOk result (λ slot. KeepsOthers (slots_in self.old) (slots_in self.new) slot.0) }
-        ensures refused { OnErr result (KeepsSlots (slots_in self.old) (slots_in self.new)) }
-        ensures missing { IsErrOf result OpenFault.Missing → files_in self.old name.now ≡ None }
-        ensures not_failed { IsErrOf result OpenFault.Failed → ⊥ }
-        ensures files { KeepsFiles (Some (files_in self.old)) (Some (files_in self.new)) }
-        ensures room { room_in self.new ≡ room_in self.old }
+        ensures { OpensFile self.old self.new name.now result }
     {
         if self.files.bytes(name).is_none() {
             return Err(OpenFault::Missing);
@@ -77,13 +67,7 @@ impl MemoryFiles {
     /// Opens an empty file with the name for writing: empties the file that has the name, or makes a new one. The file
     /// gets memory for `room` bytes.
     pub fn create(&mut self, name: &str) -> Result<Slot, NoMemory>
-        ensures made { IfOk result (λ slot. IsMade (Some (files_in self.old)) (slots_in self.new slot.0) name.now) }
-        ensures fresh { IfOk result (λ slot. slots_in self.old slot.0 ≡ None) }
-        ensures others { IfOk result (λ slot. KeepsOthersFiles (slots_in self.old) (slots_in self.new) slot.0 name.now) }
-        ensures emptied { OnOk result (PutsFile (Some (files_in self.old)) (Some (files_in self.new)) name.now []) }
-        ensures refused { OnErr result (KeepsSlots (slots_in self.old) (slots_in self.new)) }
-        ensures files { OnErr result (KeepsFiles (Some (files_in self.old)) (Some (files_in self.new))) }
-        ensures room { room_in self.new ≡ room_in self.old }
+        ensures { MakesFile self.old self.new name.now result }
     {
         let file = OpenFile::start(self.alloc, name, true)?;
         let slot = self.live.free_slot()?;
@@ -98,14 +82,7 @@ impl MemoryFiles {
         requires live { IsSome (slots_in self.old slot.0) }
         requires some { 0 < most }
         requires room { 0 < length buf.old }
-        ensures within { result ≤ length buf.new }
-        ensures moved { Consumes (left_in (slots_in self.old) slot.0) (left_in (slots_in self.new) slot.0) (take result buf.new) }
-        ensures at_end { result ≡ 0 → IsAtEnd (left_in (slots_in self.new) slot.0) }
-        ensures whole { IfSome (left_in (slots_in self.old) slot.0) (λ left. result ≡ min (length left) (min (length buf.old) most)) }
-        ensures same { option_map file_of (slots_in self.new slot.0) ≡ option_map file_of (slots_in self.old slot.0) }
-        ensures others { KeepsOthers (slots_in self.old) (slots_in self.new) slot.0 }
-        ensures files { KeepsFiles (Some (files_in self.old)) (Some (files_in self.new)) }
-        ensures room { room_in self.new ≡ room_in self.old }
+        ensures { ReadsFile self.old self.new slot.0 most (length buf.old) buf.new result }
     {
         let Some(file) = self.live.get(slot) else {
             unreachable!()
@@ -119,12 +96,7 @@ impl MemoryFiles {
     /// Appends the whole piece to the file of a slot. If there is no memory, nothing is appended.
     pub fn append(&mut self, slot: Slot, piece: &[u8]) -> Result<(), NoMemory>
         requires live { option_map (λ o. o.made) (slots_in self.old slot.0) ≡ Some true }
-        ensures appended { OnOk result (AppendsTo (Some (files_in self.old)) (Some (files_in self.new)) (name_in (slots_in self.old) slot.0) piece.now) }
-        ensures live { option_map (λ o. o.made) (slots_in self.new slot.0) ≡ Some true }
-        ensures slots { KeepsOtherFiles (slots_in self.old) (slots_in self.new) (name_in (slots_in self.old) slot.0) }
-        ensures refused { OnErr result (KeepsSlots (slots_in self.old) (slots_in self.new)) }
-        ensures files { OnErr result (KeepsFiles (Some (files_in self.old)) (Some (files_in self.new))) }
-        ensures room { room_in self.new ≡ room_in self.old }
+        ensures { AppendsPiece self.old self.new slot.0 piece.now result }
     {
         let Some(file) = self.live.get(slot) else {
             unreachable!()
@@ -135,10 +107,7 @@ impl MemoryFiles {
     /// Keeps as much of a piece as fits the room of the slot's file, and returns whether it kept all of the piece.
     pub fn keep(&mut self, slot: Slot, piece: &[u8]) -> bool
         requires live { option_map (λ o. o.made) (slots_in self.old slot.0) ≡ Some true }
-        ensures kept { KeepsPart (files_in self.old) (files_in self.new) (name_in (slots_in self.old) slot.0) (room_in self.old) piece.now result }
-        ensures live { option_map (λ o. o.made) (slots_in self.new slot.0) ≡ Some true }
-        ensures slots { KeepsOtherFiles (slots_in self.old) (slots_in self.new) (name_in (slots_in self.old) slot.0) }
-        ensures room { room_in self.new ≡ room_in self.old }
+        ensures { KeepsFront self.old self.new slot.0 piece.now result }
     {
         let Some(file) = self.live.get(slot) else {
             unreachable!()
@@ -149,10 +118,7 @@ impl MemoryFiles {
     /// Frees the slot.
     pub fn close(&mut self, slot: Slot)
         requires { IsSome (slots_in self.old slot.0) }
-        ensures ended { slots_in self.new slot.0 ≡ None }
-        ensures others { KeepsOthers (slots_in self.old) (slots_in self.new) slot.0 }
-        ensures files { KeepsFiles (Some (files_in self.old)) (Some (files_in self.new)) }
-        ensures room { room_in self.new ≡ room_in self.old }
+        ensures { FreesSlot self.old self.new slot.0 }
     {
         self.live.set(slot, None);
     }

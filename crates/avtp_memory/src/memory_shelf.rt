@@ -23,21 +23,14 @@ pub struct MemoryShelf {
 }
 
 impl MemoryShelf {
-    ghost use Rattle.std.specs.Prelude.{◌≡◌, ◌^◌, ◌-◌, [], None, ℕ, option_copied};
+    ghost use Rattle.std.specs.Prelude.{◌≡◌, option_copied};
     ghost use Rattle.avtp_memory.specs.NamedFiles.{bytes_under};
-    ghost use Rattle.avtp_memory.specs.MemoryShelf.{files_of, slots_of, asked_of, calls, failing_calls, most, reading_count, writing_count};
+    ghost use Rattle.avtp_memory.specs.MemoryShelf.{IsNew, SetsMost, files_of};
 
     /// A shelf of these files, each under its name. The calls whose numbers are in `fails` fail. If two files have the
     /// same name, the first counts.
     pub fn over(alloc: Global, files: Vec<(String, Vec<u8>)>, fails: Vec<u64>) -> Self
-        ensures files { files_of result ≡ bytes_under files.items }
-        ensures closed { (k : ℕ) → slots_of result k ≡ None }
-        ensures asked { asked_of result [] }
-        ensures fails { failing_calls result ≡ fails.items }
-        ensures calls { calls result ≡ 0 }
-        ensures most { most result ≡ 2 ^ 64 - 1 }
-        ensures reading { reading_count result ≡ 0 }
-        ensures writing { writing_count result ≡ 0 }
+        ensures { IsNew result (bytes_under files.items) fails.items }
     {
         MemoryShelf {
             held: MemoryFiles::over(alloc, files, 0),
@@ -52,14 +45,7 @@ impl MemoryShelf {
     /// Sets the greatest number of bytes that a read or a write moves. The number must be at least 1.
     pub fn at_most(self, n: usize) -> Self
         requires { 0 < n }
-        ensures files { files_of result ≡ files_of self }
-        ensures slots { (k : ℕ) → slots_of result k ≡ slots_of self k }
-        ensures asked { result.asked ≡ self.asked }
-        ensures fails { failing_calls result ≡ failing_calls self }
-        ensures calls { calls result ≡ calls self }
-        ensures most { most result ≡ n }
-        ensures reading { reading_count result ≡ reading_count self }
-        ensures writing { writing_count result ≡ writing_count self }
+        ensures { SetsMost self result n }
     {
         let MemoryShelf {
             held,

@@ -19,16 +19,12 @@ pub struct MemorySink {
 }
 
 impl MemorySink {
-    ghost use Rattle.std.specs.Prelude.{◌≡◌, ◌^◌, ◌-◌, []};
-    ghost use Rattle.avtp_memory.specs.MemorySink.{kept, calls, failing_calls, most, fault_count};
+    ghost use Rattle.std.specs.Prelude.{◌≡◌};
+    ghost use Rattle.avtp_memory.specs.MemorySink.{IsNew, SetsMost, kept};
 
     /// An empty sink. A call fails if its number is in `fails`.
     pub fn over(alloc: Global, fails: Vec<u64>) -> Self
-        ensures empty { kept result ≡ [] }
-        ensures fails { failing_calls result ≡ fails.items }
-        ensures calls { calls result ≡ 0 }
-        ensures most { most result ≡ 2 ^ 64 - 1 }
-        ensures faults { fault_count result ≡ 0 }
+        ensures { IsNew result fails.items }
     {
         MemorySink {
             bytes: Vec::new(alloc),
@@ -41,11 +37,7 @@ impl MemorySink {
     /// Sets the greatest number of bytes that a write takes. `n` must be at least 1.
     pub fn at_most(self, n: usize) -> Self
         requires { 0 < n }
-        ensures kept { kept result ≡ kept self }
-        ensures fails { failing_calls result ≡ failing_calls self }
-        ensures calls { calls result ≡ calls self }
-        ensures most { most result ≡ n }
-        ensures faults { fault_count result ≡ fault_count self }
+        ensures { SetsMost self result n }
     {
         let MemorySink {
             bytes,

@@ -17,18 +17,14 @@ pub struct QuietShelf {
 }
 
 impl QuietShelf {
-    ghost use Rattle.std.specs.Prelude.{◌≡◌, [], None, IsTrue, ℕ, option_copied};
+    ghost use Rattle.std.specs.Prelude.{◌≡◌, option_copied};
     ghost use Rattle.avtp_memory.specs.NamedFiles.{bytes_under};
-    ghost use Rattle.avtp_memory.specs.QuietShelf.{kept_files, keeps_all, room_of, slots_of, asked_of};
+    ghost use Rattle.avtp_memory.specs.QuietShelf.{IsNew, kept_files};
 
     /// A shelf of these files, each under its name. A file that is made has room for `room` bytes. If two files have
     /// the same name, the first counts.
     pub fn over(alloc: Global, files: Vec<(String, Vec<u8>)>, room: usize) -> Self
-        ensures files { kept_files result ≡ bytes_under files.items }
-        ensures all { IsTrue (keeps_all result) }
-        ensures room { room_of result ≡ room }
-        ensures closed { (k : ℕ) → slots_of result k ≡ None }
-        ensures asked { asked_of result [] }
+        ensures { IsNew result (bytes_under files.items) room }
     {
         QuietShelf {
             held: MemoryFiles::over(alloc, files, room),

@@ -18,14 +18,12 @@ pub struct QuietSink {
 }
 
 impl QuietSink {
-    ghost use Rattle.std.specs.Prelude.{◌≡◌, [], IfOk, IsTrue};
-    ghost use Rattle.avtp_memory.specs.QuietSink.{kept, keeps_all, room_of};
+    ghost use Rattle.std.specs.Prelude.{◌≡◌, IfOk};
+    ghost use Rattle.avtp_memory.specs.QuietSink.{IsNew, kept};
 
     /// An empty sink that keeps at most `room` bytes. Memory for these bytes is reserved.
     pub fn over(alloc: Global, room: usize) -> Result<Self, NoMemory>
-        ensures empty { IfOk result (λ sink. kept sink ≡ []) }
-        ensures all { IfOk result (λ sink. IsTrue (keeps_all sink)) }
-        ensures room { IfOk result (λ sink. room_of sink ≡ room) }
+        ensures { IfOk result (λ sink. IsNew sink room) }
     {
         let bytes = Vec::with_capacity(alloc, room)?;
         Ok(QuietSink {

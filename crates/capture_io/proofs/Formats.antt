@@ -10,7 +10,7 @@ use Rattle.pcap_frames.specs.Capture as classic
 use Rattle.pcap_frames.specs.Capture.{Record}
 use Rattle.pcap_frames.proofs.Append.{number_stays}
 use Rattle.pcap_frames.proofs.Fields.{certain_is}
-use Rattle.pcapng_frames.specs.Blocks as ng
+use Rattle.pcapng_blocks.specs.Blocks as ng
 use Rattle.capture_io.specs.declared.capture_reader.Format.{Format}
 use Rattle.capture_io.specs.declared.capture_reader.Format.TheVariants.{Classic, Pcapng}
 use Rattle.capture_io.specs.Formats.{is_pcapng, format_in, meaning_of, records_in, refusal_in, certain_in}

@@ -8,8 +8,7 @@ use Rattle.pcap_frames.specs.Readers as readers
 use Rattle.pcap_frames.specs.Reading as classic
 use Rattle.pcap_frames.proofs.Lent.{next_feeds as classic_feeds, next_long as classic_long, next_releases as classic_releases}
 use Rattle.pcap_frames.specs.declared.style.RecordView.{RecordView}
-use Rattle.pcap_frames.specs.Layout.{IsRecordTime}
-use Rattle.pcap_frames.specs.Readers.{shown}
+use Rattle.pcap_frames.specs.Readers.{IsView}
 use Rattle.pcapng_frames.specs.Reading as ng
 use Rattle.pcapng_frames.proofs.Lent.{next_feeds as ng_feeds, next_held as ng_held, next_releases as ng_releases}
 use Rattle.capture_io.specs.declared.capture_reader.Format.{Format}
@@ -17,7 +16,7 @@ use Rattle.capture_io.specs.declared.capture_reader.Format.TheVariants.{Classic,
 use Rattle.capture_io.specs.declared.end.End.{End}
 use Rattle.capture_io.specs.Ends.{CountsFault}
 use Rattle.capture_io.specs.Pieces.{Piecing}
-use Rattle.capture_io.specs.Reader.{CaptureReading, IsView, held, held_by, progress_by}
+use Rattle.capture_io.specs.Reader.{CaptureReading, held, held_by, progress_by}
 use Rattle.capture_io.specs.state.Reader.{Feeds, IsFront, IsNext, IsNextBy, KeepsOther, Releases, taken, with_by, with_record}
 use Rattle.capture_io.specs.Reads.{ReadsSlot}
 use Rattle.capture_io.specs.Source.{Sourcing, Advances, GivesNext, HasFed, HasGivenOf, held_in, remains_of, slot_of, to_do}
@@ -72,15 +71,11 @@ pub front_as : (f : Option Format) (format : Format) (front : List ℕ) (c c' : 
 front_as f format front c c' n n' is unused kept =
     subst (λ (g : Option Format). IsFront g front c' n') (sym is) (front_still format front c c' n n' (subst (λ (g : Option Format). IsFront g front c n) is unused) kept)
 
-pub classic_lends : (f : Option Format) (front : List ℕ) (c : classic.Reading) (n : ng.Reading) (bytes : List ℕ) (view : RecordView) → f ≡ Some Classic → classic.held (classic.with_part c bytes) ≡ Some (shown view) → IsRecordTime view.arrival
-    → IsView (held (with_record (capture f front c n) bytes)) view
-classic_lends f front c n bytes view is exact time =
-    subst (λ (g : Option Format). IsView (held (with_record (capture g front c n) bytes)) view) (sym is) (record { exact = exact; time = time })
+pub classic_lends : (f : Option Format) (front : List ℕ) (c : classic.Reading) (n : ng.Reading) (bytes : List ℕ) (view : RecordView) → f ≡ Some Classic → IsView (classic.held (classic.with_part c bytes)) view → IsView (held (with_record (capture f front c n) bytes)) view
+classic_lends f front c n bytes view is shows = subst (λ (g : Option Format). IsView (held (with_record (capture g front c n) bytes)) view) (sym is) shows
 
-pub ng_lends : (f : Option Format) (front : List ℕ) (c : classic.Reading) (n : ng.Reading) (bytes : List ℕ) (view : RecordView) → f ≡ Some Pcapng → ng.held (ng.with_block n bytes) ≡ Some (shown view) → IsRecordTime view.arrival
-    → IsView (held (with_record (capture f front c n) bytes)) view
-ng_lends f front c n bytes view is exact time =
-    subst (λ (g : Option Format). IsView (held (with_record (capture g front c n) bytes)) view) (sym is) (record { exact = exact; time = time })
+pub ng_lends : (f : Option Format) (front : List ℕ) (c : classic.Reading) (n : ng.Reading) (bytes : List ℕ) (view : RecordView) → f ≡ Some Pcapng → IsView (ng.held (ng.with_block n bytes)) view → IsView (held (with_record (capture f front c n) bytes)) view
+ng_lends f front c n bytes view is shows = subst (λ (g : Option Format). IsView (held (with_record (capture g front c n) bytes)) view) (sym is) shows
 
 -- Skipping the next record has the effect of taking the record and then releasing it.
 pub classic_passes : (f : Option Format) (front : List ℕ) (c c' : classic.Reading) (n : ng.Reading) (bytes : List ℕ) → f ≡ Some Classic → IsNext (capture f front c n) bytes → c' ≡ record c { start = c.start + length bytes }

@@ -1,6 +1,6 @@
 -- How a reader of captures in either layout takes bytes.
 use Rattle.std.proofs.Common.{◌≡◌, ◌↔◌, ◌⊎◌, ℕ, ◌+◌, ◌≤◌, ◌<◌, Bool, true, false, nat_lt, if◌then◌else◌, List, [], ◌∷◌, ◌++◌, length, take, drop, Option, Some, None, Ok, Err, IsSome, refl, sym, ap, subst, ◌∙◌, arith, inl, inr, append_assoc, length-append, take-append-drop}
-use Rattle.std.specs.Prelude.{Result, IfSome, is_none, is_some, cond, option_to_list}
+use Rattle.std.specs.Prelude.{Result, is_none, is_some, cond, option_to_list}
 use Rattle.std.specs.Result.{result_err}
 use Rattle.std.proofs.lemmas.Bool.{cases_lt, lt-ltb}
 use Rattle.std.proofs.lemmas.List.{append-nil, length-take-le, take_all}
@@ -11,22 +11,22 @@ use Rattle.pcap_frames.specs.Layout.{file_refusal, style_at}
 use Rattle.pcap_frames.specs.Capture.{Record}
 use Rattle.pcap_frames.specs.Capture as captures
 use Rattle.pcap_frames.specs.Readers as readers
-use Rattle.pcap_frames.specs.Readers.{Ends, Views}
+use Rattle.pcap_frames.specs.Readers.{Ends, FindsNext, Views}
 use Rattle.pcap_frames.specs.Reading as classic
 use Rattle.pcap_frames.proofs.Ends.{gives_up}
 use Rattle.pcap_frames.proofs.Fields.{file_whole}
 use Rattle.pcap_frames.proofs.Filling.{styleless}
 use Rattle.pcap_frames.proofs.Firsts.{records_first}
 use Rattle.pcap_frames.proofs.Steps.{none_some, read_nothing as begun_classic, releases_none}
-use Rattle.pcapng_frames.specs.Blocks as ng
+use Rattle.pcapng_blocks.specs.Blocks as ng
 use Rattle.pcapng_frames.specs.Reading as reading
 use Rattle.pcapng_frames.proofs.Moves.{read_nothing as begun_pcapng}
-use Rattle.pcapng_frames.proofs.Places.{size_some, unroll}
+use Rattle.pcapng_blocks.proofs.Places.{size_some, unroll}
 use Rattle.capture_io.specs.declared.capture_reader.Format.{Format}
 use Rattle.capture_io.specs.declared.capture_reader.Format.TheVariants.{Classic, Pcapng}
 use Rattle.capture_io.specs.Formats.{format_in, meaning_of, records_in, certain_in}
 use Rattle.capture_io.specs.Reader.{CaptureReading, HasRead, StandsFor, held, held_by, progress_by}
-use Rattle.capture_io.specs.state.Reader.{EndsHere, Feeds, FindsNext, GoesOn, IsFront, IsNextBy, KeepsOther, RefusedAfter, Releases, nothing_read}
+use Rattle.capture_io.specs.state.Reader.{EndsHere, Feeds, GoesOn, IsFront, IsNext, IsNextBy, KeepsOther, RefusedAfter, Releases, nothing_read}
 use Rattle.capture_io.proofs.Formats.{certain_by, format_longer, records_by, refusal_by, short_certain, short_records, short_refusal}
 
 pub read_nothing : HasRead nothing_read [] []
@@ -35,9 +35,9 @@ read_nothing = record { stands = (refl, omega arith, refl); uncertain = λ none.
 -- ---- a record that is held
 
 held_rest : (refusal : Option Refusal) (whole : Bool) (r : reading.Reading) (x : Record) (more : List ℕ) → reading.held_by refusal whole r.place.packet ≡ Some x
-    → reading.rest_by refusal whole r more ≡ ng.and_then (Some x) (reading.contents_at (ng.after_trailer r.place) more)
+    → reading.rest_by refusal whole r more ≡ ng.and_then (Some x) (ng.contents_at (ng.after_trailer r.place) more)
 held_rest (Some why) whole r x more e = absurd cc
-held_rest None true r x more e = ap (λ (p : Option Record). ng.and_then p (reading.contents_at (ng.after_trailer r.place) more)) e
+held_rest None true r x more e = ap (λ (p : Option Record). ng.and_then p (ng.contents_at (ng.after_trailer r.place) more)) e
 held_rest None false r x more e = absurd cc
 
 if_none : (b : Bool) (x y : ng.Contents) → x.records ≡ [] → y.records ≡ [] → (if b then x else y).records ≡ []
@@ -263,13 +263,8 @@ pub views_some : (h : Option Record) (view : RecordView) → Views h (Some view)
 views_some None view v = absurd (let no = v.exact in cc)
 views_some (Some r) view v = refl
 
-pub finds_next : (format : Option Format) (r : CaptureReading) (piece : List ℕ) (result : Option ℕ) → r.format ≡ format → IfSome result (λ size. size ≤ length piece) → IfSome result (λ size. IsNextBy format r (take size piece))
-    → (result ≡ None → (size : ℕ) → IsNextBy format r (take size piece) → ⊥) → FindsNext r piece result
-finds_next format r piece result is within next none = record {
-  within = within;
-  next = subst (λ (f : Option Format). IfSome result (λ (size : ℕ). IsNextBy f r (take size piece))) (sym is) next;
-  none = subst (λ (f : Option Format). result ≡ None → (size : ℕ) → IsNextBy f r (take size piece) → ⊥) (sym is) none;
-}
+pub finds_next : (format : Option Format) (r : CaptureReading) (piece : List ℕ) (result : Option ℕ) → r.format ≡ format → FindsNext (IsNextBy format r) piece result → FindsNext (IsNext r) piece result
+finds_next format r piece result is finds = subst (λ (f : Option Format). FindsNext (IsNextBy f r) piece result) (sym is) finds
 
 -- ---- releasing
 
@@ -340,7 +335,7 @@ pcapng_begun r None bytes more before is read =
     let rest = (reading.rest_of r more).records in
     (rest, ap (λ (c : ng.Contents). c.records) (read.read more) ∙ ap (λ (rs : List Record). rs ++ rest) (sym (append-nil before)))
 pcapng_begun r (Some x) bytes more before is read =
-    let rest = (reading.contents_at (ng.after_trailer r.place) more).records in
+    let rest = (ng.contents_at (ng.after_trailer r.place) more).records in
     (rest, ap (λ (c : ng.Contents). c.records) (read.read more ∙ ap (reading.after_all before) (held_rest r.refusal r.whole r x more is)) ∙ sym (append_assoc before (x ∷ []) rest))
 
 format_begun : (format : Format) (c : classic.Reading) (n : reading.Reading) (bytes more : List ℕ) (before : List Record) → (progress_by format c n).has_read bytes before

@@ -11,17 +11,17 @@ use Rattle.pcap_frames.specs.declared.style.Order.{Order}
 use Rattle.pcap_frames.specs.declared.style.Order.TheVariants.{Little, Big}
 use Rattle.pcap_frames.specs.Layout.{number_at}
 use Rattle.pcap_frames.specs.Capture.{HasSpelling, Record}
-use Rattle.pcapng_frames.specs.declared.block.Kind.{Kind}
-use Rattle.pcapng_frames.specs.declared.block.Kind.TheVariants as kind
-use Rattle.pcapng_frames.specs.declared.block.Stage.{Stage}
-use Rattle.pcapng_frames.specs.declared.block.Stage.TheVariants as stage
-use Rattle.pcapng_frames.specs.declared.interface.Interface.{Interface}
-use Rattle.pcapng_frames.specs.Interface.{arrival_of, arrival_limit, instant}
-use Rattle.pcapng_frames.specs.Fields.{first_refused, interface_at, packet_arrival, packet_rows, timestamp}
-use Rattle.pcapng_frames.specs.Blocks as ng
-use Rattle.pcapng_frames.specs.Blocks.{Place}
-use Rattle.pcapng_frames.proofs.Blocks.{at_block, size_at_block}
-use Rattle.pcapng_frames.proofs.Heads.{kind_accepted}
+use Rattle.pcapng_blocks.specs.declared.block.Kind.{Kind}
+use Rattle.pcapng_blocks.specs.declared.block.Kind.TheVariants as kind
+use Rattle.pcapng_blocks.specs.declared.block.Stage.{Stage}
+use Rattle.pcapng_blocks.specs.declared.block.Stage.TheVariants as stage
+use Rattle.pcapng_blocks.specs.declared.interface.Interface.{Interface}
+use Rattle.pcapng_blocks.specs.Interface.{arrival_of, arrival_limit, instant}
+use Rattle.pcapng_blocks.specs.Fields.{first_refused, interface_at, packet_arrival, packet_rows, timestamp}
+use Rattle.pcapng_blocks.specs.Blocks as ng
+use Rattle.pcapng_blocks.specs.Blocks.{Place}
+use Rattle.pcapng_blocks.proofs.Blocks.{at_block, size_at_block}
+use Rattle.pcapng_blocks.proofs.Heads.{kind_accepted}
 use Rattle.pcap_frames.proofs.Written.{written_records, written_refusal}
 use Rattle.capture_io.specs.declared.capture_reader.Format.TheVariants.{Classic, Pcapng}
 use Rattle.capture_io.specs.Formats.{AreBytes, as_classic, is_pcapng, nanoseconds, records_in, refusal_in}

@@ -1,5 +1,5 @@
 -- A capture that is written to a file of a shelf while other files are read.
-use Rattle.std.specs.Prelude.{◌≡◌, ◌≢◌, ℕ, ℤ, List, [], ◌∷◌, ◌++◌, length, Option, None, Some, IfOk, IsErrOf, IsSome, OnErr, OnOk, Result, option_map}
+use Rattle.std.specs.Prelude.{◌≡◌, ◌≢◌, ◌*◌, ◌^◌, ◌≤◌, ◌≤ℤ◌, ◌<ℤ◌, ℕ, ℤ, pos, List, [], ◌∷◌, ◌++◌, length, Option, None, Some, IfOk, IsErrOf, IsSome, OnErr, OnOk, Result, option_map}
 use Rattle.pcap_frames.specs.declared.style.Order.TheVariants.{Little}
 use Rattle.pcap_frames.specs.declared.style.Style.{Style}
 use Rattle.pcap_frames.specs.declared.style.Unit.TheVariants.{Nano}
@@ -8,7 +8,7 @@ use Rattle.avtp_base.specs.declared.failed.Failed.{Failed}
 use Rattle.avtp_base.specs.declared.failed.OpenFault.{OpenFault}
 use Rattle.avtp_base.specs.declared.failed.OpenFault.TheVariants as open_fault
 use Rattle.avtp_base.specs.Faults.{IsCounted, IsOpenCounted}
-use Rattle.avtp_base.specs.Files.{Files, Slots, file_of, left_in, name_in, PutsFile}
+use Rattle.avtp_base.specs.Files.{Files, KeepsFiles, Slots, file_of, left_in, name_in, PutsFile}
 use Rattle.avtp_base.specs.States.{Asks, AsksNothing, ShelfState}
 use Rattle.avtp_files.specs.ShelfCalls.{IsMadeIn}
 use Rattle.capture_io.specs.Writing.{NotMade, PutsPrefix, WritesSlot, Writing}
@@ -48,6 +48,14 @@ pub record KeepsBeside (files : Option Files) (old new : Slots) (k : ℕ) (name 
   pub same : (j : ℕ) → j ≢ k → option_map file_of (new j) ≡ option_map file_of (old j)
   pub left : IsSome files → (j : ℕ) → j ≢ k → name_in old j ≢ Some name → left_in new j ≡ left_in old j
 
+-- Opening, reading and closing other files keeps a capture that is being written. Two steps that keep all slots except
+-- the writer's keep these slots together, too.
+pub record KeepsCaptures : Type 0 where
+  pub kept : (files : Option Files) (s t : ShelfState) (w : Writing) (name : List ℕ) (records : List Record) → HoldsCapture files s w name records
+      → KeepsFiles s.files t.files → t.slots w.slot ≡ s.slots w.slot → HoldsCapture files t w name records
+  pub beside : (files : Option Files) (a b c : Slots) (k : ℕ) (name : List ℕ) → KeepsBeside files a b k name → KeepsBeside files b c k name
+      → KeepsBeside files a c k name
+
 -- ---- calls
 
 -- If the result is `Ok`, the file `name` was made for a capture that has no record so far. If the result is `Err`, the
@@ -62,6 +70,14 @@ pub record BeginsCapture (before after : ShelfState) (name : List ℕ) (result :
   pub reading : after.reading_faults ≡ before.reading_faults
   pub counted : IsOpenCounted before.writing_faults after.writing_faults result
   pub asked : Asks (name ∷ []) before after
+
+-- The capture's file is open, and a frame with this arrival can be added: the arrival is from 0 to below 2^32 seconds,
+-- and the frame has at most 65,520 bytes.
+pub record CanAdd (slots : Slots) (writer : Writing) (arrival : ℤ) (frame : List ℕ) : Type 0 where
+  pub made : IsMadeIn slots writer.slot
+  pub begun : pos 0 ≤ℤ arrival
+  pub ended : arrival <ℤ pos (2 ^ 32 * 1000000000)
+  pub size : length frame ≤ 65520
 
 -- With `Ok` the record `r` was appended to the capture. If the result is `Err`, the shelf failed, and the capture is
 -- unchanged. Whatever the result, buffered bytes may have been written to the file.

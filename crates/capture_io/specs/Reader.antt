@@ -2,9 +2,8 @@
 use Rattle.std.specs.Prelude.{◌≡◌, ℕ, ◌<◌, ◌≤◌, List, [], length, Option, None, Some}
 use Rattle.avtp_base.specs.declared.refusal.Refusal.{Refusal}
 use Rattle.pcap_frames.specs.Capture.{Record}
-use Rattle.pcap_frames.specs.declared.style.RecordView.{RecordView}
-use Rattle.pcap_frames.specs.Layout.{IsRecordTime}
-use Rattle.pcap_frames.specs.Readers.{Progress, shown}
+use Rattle.pcap_frames.specs.Readers.{Progress}
+pub use Rattle.pcap_frames.specs.Readers.{IsView}
 use Rattle.pcap_frames.specs.Reading as classic
 use Rattle.pcapng_frames.specs.Reading as ng
 use Rattle.capture_io.specs.declared.capture_reader.Format.{Format}
@@ -55,8 +54,3 @@ StandsFor (Some format) r bytes records =
 pub record HasRead (r : CaptureReading) (bytes : List ℕ) (records : List Record) : Type 0 where
   pub stands : StandsFor r.format r bytes records
   pub uncertain : refusal_of r ≡ None → certain_in bytes ≡ None
-
--- `view` shows the held record, and the record's arrival is within the range that a capture can record
-pub record IsView (held : Option Record) (view : RecordView) : Type 0 where
-  pub exact : held ≡ Some (shown view)
-  pub time : IsRecordTime view.arrival

@@ -1,5 +1,5 @@
 -- A file that is written through a buffer.
-use Rattle.std.specs.Prelude.{◌≡◌, ◌≢◌, ◌⊎◌, ℕ, List, [], ◌∷◌, ◌++◌, Option, None, Some, IfOk, IsErrOf, IsSome, OnErr, OnOk, Result, option_map}
+use Rattle.std.specs.Prelude.{◌≡◌, ◌≢◌, ◌≤◌, ◌⊎◌, ℕ, List, [], ◌∷◌, ◌++◌, Option, None, Some, IfOk, IsErrOf, IsSome, OnErr, OnOk, Result, option_map}
 use Rattle.avtp_base.specs.declared.failed.Failed.{Failed}
 use Rattle.avtp_base.specs.declared.failed.OpenFault.{OpenFault}
 use Rattle.avtp_base.specs.declared.failed.OpenFault.TheVariants as open_fault
@@ -37,6 +37,11 @@ pub record WritesSlot (before after : ShelfState) (old new : Writing) (result : 
   pub reading : after.reading_faults ≡ before.reading_faults
   pub counted : IsCounted before.writing_faults after.writing_faults result
   pub asked : AsksNothing before after
+
+-- The writer's file is open, and its empty buffer can hold `count` bytes.
+pub record CanHold (slots : Slots) (writer : Writing) (count : ℕ) : Type 0 where
+  pub made : IsMadeIn slots writer.slot
+  pub size : count ≤ 65536
 
 -- With `Ok` the bytes `bytes` were added to the writer's file. If the result is `Err`, the shelf failed, and nothing
 -- was added.

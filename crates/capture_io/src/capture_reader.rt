@@ -3,10 +3,10 @@
 ghost use Rattle.std.specs.Prelude.{◌≡◌, ◌+◌, ◌≤◌, ◌^◌, ℕ, List, length, None, IfOk};
 ghost use Rattle.std.specs.Result.{result_err};
 ghost use Rattle.pcap_frames.specs.Capture.{Record};
-ghost use Rattle.pcap_frames.specs.Readers.{Feeds as FeedsReader, Views};
-ghost use Rattle.capture_io.specs.Formats.{format_in, meaning_of};
-ghost use Rattle.capture_io.specs.Reader.{HasRead, IsView, held, progress_by};
-ghost use Rattle.capture_io.specs.state.Reader.{EndsHere, Feeds, FindsNext, IsNext, KeepsOther, Releases, nothing_read, taken, with_record};
+ghost use Rattle.pcap_frames.specs.Readers.{FindsNext, IsView, Views};
+ghost use Rattle.capture_io.specs.Formats.{format_in};
+ghost use Rattle.capture_io.specs.Reader.{HasRead, held, progress_by};
+ghost use Rattle.capture_io.specs.state.Reader.{CanPass, EndsHere, Feeds, FeedsFormat, IsNext, Releases, nothing_read, taken, with_record};
 
 use avtp_base::rows::cut_off;
 use avtp_base::{Field, NoMemory, Refusal};
@@ -131,7 +131,7 @@ impl CaptureReader {
     /// If the result is `None`, no whole record can be taken from the piece, and the piece must be fed.
     #[inline(always)]
     pub fn whole_ahead(&self, piece: &[u8]) -> Option<usize>
-        ensures { FindsNext self.now piece.now result }
+        ensures { FindsNext (IsNext self.now) piece.now result }
     {
         match self.format {
             None => None,
@@ -171,8 +171,7 @@ impl CaptureReader {
     /// Skips the next record, as if its bytes had been fed and the record released.
     #[inline(always)]
     pub fn pass(&mut self, bytes: &[u8])
-        requires next { IsNext self.old bytes.now }
-        requires bounded { taken self.old + length bytes.now ≤ 2 ^ 62 }
+        requires { CanPass self.old bytes.now }
         ensures { Releases (with_record self.old bytes.now) self.new }
     {
         match self.format {
@@ -208,8 +207,7 @@ fn feed_format(
     piece: &[u8],
 ) -> Result<usize, Refusal>
     requires { (progress_by format classic.old ng.old).taken + length piece.now ≤ 2 ^ 62 }
-    ensures fed { FeedsReader (meaning_of format) (progress_by format classic.old ng.old) piece.now result (progress_by format classic.new ng.new) }
-    ensures other { KeepsOther format classic.old classic.new ng.old ng.new }
+    ensures { FeedsFormat format classic.old classic.new ng.old ng.new piece.now result }
 {
     match format {
         Format::Classic => classic.feed(piece),

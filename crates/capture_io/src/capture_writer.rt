@@ -1,9 +1,9 @@
 //! Writes a capture to a file.
 
-ghost use Rattle.std.specs.Prelude.{◌≡◌, ◌+◌, ◌*◌, ◌^◌, ◌≤◌, [], Ok, length, pos, ◌≤ℤ◌, ◌<ℤ◌};
+ghost use Rattle.std.specs.Prelude.{◌≡◌, [], Ok};
 ghost use Rattle.avtp_files.specs.ShelfCalls.{IsMadeIn};
 ghost use Rattle.pcap_frames.specs.Capture.{header_spelling};
-ghost use Rattle.capture_io.specs.CaptureWriting.{AddsRecord, BeginsCapture, ClosesCapture, FinishesCapture, whole_record, written_style};
+ghost use Rattle.capture_io.specs.CaptureWriting.{AddsRecord, BeginsCapture, CanAdd, ClosesCapture, FinishesCapture, whole_record, written_style};
 
 use crate::file_writer::FileWriter;
 use avtp_base::{Buffer, Failed, OpenFault, Spelled};
@@ -76,10 +76,7 @@ impl CaptureWriter {
         arrival: i64,
         frame: &W,
     ) -> Result<(), Failed>
-        requires made { IsMadeIn (F.state shelf.old).slots self.old.slot }
-        requires begun { pos 0 ≤ℤ arrival }
-        requires ended { arrival <ℤ pos (2 ^ 32 * 1000000000) }
-        requires size { length (W.spelling frame.now) ≤ 65520 }
+        requires { CanAdd (F.state shelf.old).slots self.old arrival (W.spelling frame.now) }
         ensures { AddsRecord (F.state shelf.old) (F.state shelf.new) self.old self.new (whole_record arrival (W.spelling frame.now)) result }
     {
         let size = frame.size();

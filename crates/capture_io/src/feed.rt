@@ -1,16 +1,13 @@
 //! Feeds the pieces of a capture to its reader.
 
-ghost use Rattle.std.specs.Prelude.{◌≡◌, ◌<◌, ◌≤◌, [], length, IsSome};
-ghost use Rattle.avtp_base.specs.States.{ShelfState};
-ghost use Rattle.capture_io.specs.Reader.{IsView};
-ghost use Rattle.capture_io.specs.Source.{GivesNext, held_in, slot_of};
+ghost use Rattle.std.specs.Prelude.{◌≤◌, length, IsSome};
+ghost use Rattle.capture_io.specs.Source.{GivesNext, slot_of};
 ghost use Rattle.capture_io.specs.state.Source.{FindsAhead, GivesUp, IsReady, LiesAhead, ReadsOn, ReadsRecord, holding};
 
 use crate::capture_reader::CaptureReader;
 use crate::end::End;
 use crate::pieces::Pieces;
 use avtp_files::Shelf;
-use pcap_frames::RecordView;
 use std::marker::Model;
 
 /// A capture that is read from a shelf and fed to a reader in pieces. A record is held by the reader if the reader has
@@ -66,33 +63,16 @@ impl Feed {
         }
     }
 
-    /// Feeds buffered bytes to the reader, or reads the next piece if no bytes are buffered.
+    /// Feeds buffered bytes to the reader, at most up to the end of one record, or reads the next piece if no bytes are
+    /// buffered. If the reader refuses the bytes, returns the refusal, which ends the reading.
     fn step<F: Shelf>(&mut self, shelf: &mut F) -> Option<End>
         requires { IsReady (F.state shelf.old).slots self.old }
         ensures { ReadsOn (F.state shelf.old) (F.state shelf.new) self.old self.new result }
     {
         if self.pieces.waiting().is_empty() {
-            return self.read_piece(shelf);
+            let stop = self.pieces.read(shelf)?;
+            return Some(stop.end(self.reader.finish().err()));
         }
-        self.feed_piece()
-    }
-
-    /// Reads the next piece; no bytes may be buffered before the call.
-    fn read_piece<F: Shelf>(&mut self, shelf: &mut F) -> Option<End>
-        requires ready { IsReady (F.state shelf.old).slots self.old }
-        requires none_waits { self.old.pieces.waiting ≡ [] }
-        ensures { ReadsOn (F.state shelf.old) (F.state shelf.new) self.old self.new result }
-    {
-        let stop = self.pieces.read(shelf)?;
-        Some(stop.end(self.reader.finish().err()))
-    }
-
-    /// Feeds buffered bytes to the reader, at most up to the end of one record. If the reader refuses the bytes,
-    /// returns the refusal, which ends the reading.
-    fn feed_piece(&mut self) -> Option<End>
-        requires { 0 < length self.old.pieces.waiting }
-        ensures { (shelf : ShelfState) → IsReady shelf.slots self.old → ReadsOn shelf shelf self.old self.new result }
-    {
         match self.reader.feed(self.pieces.waiting()) {
             Ok(taken) => {
                 self.pieces.take(taken);
@@ -124,15 +104,6 @@ impl Feed {
         requires { taken ≤ length self.now.pieces.waiting }
     {
         self.ended.is_none() && !self.reader.is_ahead(&self.pieces.waiting()[taken..])
-    }
-
-    /// The next record, which is the first `size` buffered bytes.
-    #[inline(always)]
-    pub fn lend(&self, size: usize) -> RecordView<'_>
-        requires { LiesAhead self.now size }
-        ensures { IsView (held_in (holding self.now size)) result }
-    {
-        self.reader.lend(&self.pieces.waiting()[..size])
     }
 
     /// Skips the next record, which is the first `size` buffered bytes.

@@ -2,7 +2,7 @@
 
 ghost use Rattle.std.specs.Prelude.{◌≡◌, ◌+◌, ◌≤◌, ◌++◌, [], Ok, length};
 ghost use Rattle.avtp_files.specs.ShelfCalls.{IsMadeIn};
-ghost use Rattle.capture_io.specs.Writing.{AddsBytes, ClosesFile, CreatesFile, FinishesFile};
+ghost use Rattle.capture_io.specs.Writing.{AddsBytes, CanHold, ClosesFile, CreatesFile, FinishesFile};
 ghost use Rattle.capture_io.specs.state.Writing.{MakesRoom, WritesOut};
 
 use avtp_base::{Buffer, Failed, OpenFault, Spelled};
@@ -45,8 +45,7 @@ impl FileWriter {
     /// the call adds nothing.
     #[inline(always)]
     pub fn add<F: Shelf, W: Spelled>(&mut self, shelf: &mut F, added: &W) -> Result<(), Failed>
-        requires made { IsMadeIn (F.state shelf.old).slots self.old.slot }
-        requires size { length (W.spelling added.now) ≤ 65536 }
+        requires { CanHold (F.state shelf.old).slots self.old (length (W.spelling added.now)) }
         ensures { AddsBytes (F.state shelf.old) (F.state shelf.new) self.old self.new (W.spelling added.now) result }
     {
         self.make_room(shelf, added.size())?;
@@ -57,8 +56,7 @@ impl FileWriter {
     /// Writes the buffered bytes if the buffer lacks room for `size` more.
     #[inline(always)]
     pub(crate) fn make_room<F: Shelf>(&mut self, shelf: &mut F, size: usize) -> Result<(), Failed>
-        requires made { IsMadeIn (F.state shelf.old).slots self.old.slot }
-        requires size { size ≤ 65536 }
+        requires { CanHold (F.state shelf.old).slots self.old size }
         ensures { MakesRoom (F.state shelf.old) (F.state shelf.new) self.old self.new size result }
     {
         if self.buffer.room() < size {

@@ -1,11 +1,7 @@
 //! Laws of captures in either layout.
 
-ghost use Rattle.std.specs.Prelude.{◌≡◌, ℕ, List, None, Option, true};
-ghost use Rattle.avtp_base.specs.Files.{Files, KeepsFiles, Slots};
-ghost use Rattle.avtp_base.specs.States.{ShelfState};
-ghost use Rattle.pcap_frames.specs.Capture.{Record};
-ghost use Rattle.capture_io.specs.CaptureWriting.{HoldsCapture, KeepsBeside};
-ghost use Rattle.capture_io.specs.Writing.{Writing};
+ghost use Rattle.std.specs.Prelude.{◌≡◌, ℕ, List, None, true};
+ghost use Rattle.capture_io.specs.CaptureWriting.{KeepsCaptures};
 ghost use Rattle.capture_io.specs.Formats.{AreBytes, as_classic, is_pcapng, records_in, refusal_in};
 
 /// A law: if the records of a pcapng capture are written as a little-endian classic capture with nanoseconds, the
@@ -19,6 +15,5 @@ pub fn classic_again()
 /// two successive calls keep all slots except the writer's, in the sense of `KeepsBeside`. The two calls together then
 /// keep these slots, too.
 pub fn captures_are_written_beside_others()
-    ensures kept { (files : Option Files) (s t : ShelfState) (w : Writing) (name : List ℕ) (records : List Record) → HoldsCapture files s w name records → KeepsFiles s.files t.files → t.slots w.slot ≡ s.slots w.slot → HoldsCapture files t w name records }
-    ensures beside { (files : Option Files) (a b c : Slots) (k : ℕ) (name : List ℕ) → KeepsBeside files a b k name → KeepsBeside files b c k name → KeepsBeside files a c k name }
+    ensures { KeepsCaptures }
 {}

@@ -111,7 +111,7 @@ impl Source {
         ensures { IsView (held_in self.now) result }
     {
         if let Some(size) = self.lent {
-            return self.feed.lend(size);
+            return self.feed.reader.lend(&self.feed.pieces.waiting()[..size]);
         }
         match self.feed.reader.held() {
             Some(record) => record,

@@ -112,6 +112,7 @@ passes r bytes next =
       free = gone.free;
       style = refl;
       refusal = refl;
+      exact = refl;
     }
 
 -- after the next record is skipped, the reader's invariant holds

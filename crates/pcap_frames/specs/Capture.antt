@@ -146,3 +146,23 @@ pub record HasSpelling (style : Style) (r : Record) : Type 0 where
 -- the canonical spelling of a capture
 abbrev pub capture_spelling : Style → List Record → List ℕ
 capture_spelling style records = header_spelling style ++ flat_map (record_spelling style) records
+
+-- An arrival that a capture of this style can record: from 0 to below 2^32 seconds, and a whole number of the style's
+-- units.
+pub record IsArrival (style : Style) (arrival : ℤ) : Type 0 where
+  pub begun : pos 0 ≤ℤ arrival
+  pub ended : arrival <ℤ pos (2 ^ 32 * 1000000000)
+  pub whole : nat_abs arrival % scale style.unit ≡ 0
+
+-- The bytes have one meaning: exactly one list of records and at most one first refusal; a capture has one style.
+pub record IsOne (bytes : List ℕ) : Type 0 where
+  pub some : Holds bytes (whole_records bytes) (first_refusal bytes)
+  pub one_list : (records others : List Record) (x y : Option Refusal) → Holds bytes records x → Holds bytes others y → records ≡ others
+  pub one_refusal : (records others : List Record) (x y : Option Refusal) → Holds bytes records x → Holds bytes others y → x ≡ y
+  pub one_style : (records others : List Record) (style other : Style) → IsCapture style records bytes → IsCapture other others bytes → style ≡ other
+
+-- The canonical spelling of these records is a capture of exactly this style and these records, without a refusal.
+pub record ReadsBack (style : Style) (all : List Record) : Type 0 where
+  pub capture : IsCapture style all (capture_spelling style all)
+  pub records : whole_records (capture_spelling style all) ≡ all
+  pub refusal : first_refusal (capture_spelling style all) ≡ None

@@ -73,3 +73,15 @@ shown view = record { arrival = view.arrival; orig_len = view.orig_len; bytes = 
 pub record Views (held : Option Record) (view : Option RecordView) : Type 0 where
   pub exact : option_map shown view ≡ held
   pub time : IfSome view (λ v. IsRecordTime v.arrival)
+
+-- What looking for the next record in a piece finds. `is_next` says which bytes are the whole next record. If the piece
+-- begins with such bytes, the result is their number; otherwise the result is `None`.
+pub record FindsNext (is_next : List ℕ → Type 0) (piece : List ℕ) (result : Option ℕ) : Type 0 where
+  pub within : IfSome result (λ size. size ≤ length piece)
+  pub next : IfSome result (λ size. is_next (take size piece))
+  pub none : result ≡ None → (size : ℕ) → is_next (take size piece) → ⊥
+
+-- `view` shows the held record, and the record's arrival is within the range that a capture can record
+pub record IsView (held : Option Record) (view : RecordView) : Type 0 where
+  pub exact : held ≡ Some (shown view)
+  pub time : IsRecordTime view.arrival

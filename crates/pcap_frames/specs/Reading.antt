@@ -1,12 +1,13 @@
 -- What the state of a reader means: which bytes it has taken, and which records it has released.
-use Rattle.std.specs.Prelude.{◌≡◌, ℕ, ◌+◌, ◌<◌, ◌≤◌, false, cond, ◌⊎◌, List, [], ◌++◌, length, IsSome, Option, Some, None, is_none, option_to_list}
+use Rattle.std.specs.Prelude.{◌≡◌, ℕ, ◌+◌, ◌<◌, ◌≤◌, Bool, false, cond, ◌⊎◌, List, [], ◌++◌, length, IsSome, Option, Some, None, is_none, is_some, option_to_list, Result}
+use Rattle.std.specs.Result.{result_err}
 use Rattle.avtp_base.specs.declared.refusal.Refusal.{Refusal}
 use Rattle.pcap_frames.specs.declared.style.Order.{Order}
 use Rattle.pcap_frames.specs.declared.style.Style.{Style}
 use Rattle.pcap_frames.specs.Layout.{number_at, certain, file_refusal, record_refusal}
-use Rattle.pcap_frames.specs.Capture.{Record, IsCapture, IsRefused, record_of, style_of, whole_records, first_refusal}
+use Rattle.pcap_frames.specs.Capture.{Record, Holds, IsCapture, IsRefused, record_of, style_of, whole_records, first_refusal}
 use Rattle.pcap_frames.specs.Readers as readers
-use Rattle.pcap_frames.specs.Readers.{Meaning, Progress}
+use Rattle.pcap_frames.specs.Readers.{Ends, Meaning, Progress, Releases}
 pub use Rattle.pcap_frames.specs.Readers.{shown}
 
 -- The state of a reader. `style` is the capture's style, or `None` until the file header is accepted. `start` is the
@@ -114,3 +115,20 @@ pub record Passes (old : Reading) (bytes : List ℕ) (new : Reading) : Type 0 wh
   pub free : held new ≡ None
   pub style : new.style ≡ old.style
   pub refusal : new.refusal ≡ old.refusal
+  pub exact : new ≡ record old { start = old.start + length bytes }
+
+-- What the call `release` does. The result says whether a record was held. A held record is released; without one, the
+-- reader is unchanged.
+pub record LetsGo (old : Reading) (result : Bool) (new : Reading) : Type 0 where
+  pub answer : result ≡ is_some (held old)
+  pub releases : Releases (progress old) (progress new)
+  pub still : result ≡ false → new ≡ old
+  pub style : new.style ≡ old.style
+
+-- ---- the end of a capture
+
+-- The result if the capture ends with the bytes taken so far: its first refusal, or `Ok` if there is none. The released
+-- records and the held record are all records before it.
+pub record Finishes (r : Reading) (result : Result Unit Refusal) : Type 0 where
+  pub exact : (bytes : List ℕ) (records : List Record) → HasRead r bytes records → Holds bytes (records ++ option_to_list (held r)) (result_err result)
+  pub ends : Ends meaning (progress r) result

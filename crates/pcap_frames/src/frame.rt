@@ -4,7 +4,8 @@ ghost use Rattle.std.specs.Prelude.{◌≡◌, ◌+◌, ◌*◌, ◌^◌, ◌≤
 ghost use Rattle.avtp_base.specs.Octets.{AreBytes, bits, flag, is_set};
 ghost use Rattle.avtp_base.specs.Layout.{first_short, spelling};
 ghost use Rattle.avtp_base.specs.Rows.{IsSpelledOnce, Reads, Writes};
-ghost use Rattle.pcap_frames.specs.Frame.{Frame, IsWritableFrame, SpellsFrame, frame_layout, frame_of, frame_refusal, frame_shape, frame_spelling, is_tagged, plain_frame, tag_in as tag_that_stands_in};
+ghost use Rattle.pcap_frames.specs.Frame.{Frame, IsWritableFrame, SpellsFrame, frame_layout, frame_of, frame_refusal, frame_shape, frame_spelling, plain_frame, tag_in as tag_that_stands_in};
+ghost use Rattle.pcap_frames.specs.state.Frame.{HasHeader};
 
 use avtp_base::octets::{bit_at, bits_at, low_bits_at, u16_at, u48_at, write_front};
 use avtp_base::rows::cut_off;
@@ -75,8 +76,7 @@ fn tag_in(frame: &[u8]) -> Tag
 
 #[inline(always)]
 fn read_untagged(frame: &[u8]) -> FrameView<'_>
-    requires whole { 14 ≤ length frame.now }
-    requires untagged { is_tagged frame.now ≡ false }
+    requires { HasHeader false frame.now }
     ensures { frame_shape result ≡ frame_of frame.now }
 {
     FrameView {
@@ -91,8 +91,7 @@ fn read_untagged(frame: &[u8]) -> FrameView<'_>
 
 #[inline(always)]
 fn read_tagged(frame: &[u8]) -> FrameView<'_>
-    requires whole { 18 ≤ length frame.now }
-    requires tagged { is_tagged frame.now ≡ true }
+    requires { HasHeader true frame.now }
     ensures { frame_shape result ≡ frame_of frame.now }
 {
     FrameView {

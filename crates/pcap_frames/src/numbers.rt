@@ -1,7 +1,8 @@
 //! Numbers of a capture, in its byte order.
 
-ghost use Rattle.std.specs.Prelude.{◌≡◌, ◌+◌, ◌≤◌, ◌++◌, ℕ, length, take, drop};
-ghost use Rattle.pcap_frames.specs.Layout.{number_at, number_bytes};
+ghost use Rattle.std.specs.Prelude.{◌≡◌, ◌+◌, ◌≤◌, length};
+ghost use Rattle.pcap_frames.specs.Layout.{number_at};
+ghost use Rattle.pcap_frames.specs.state.Layout.{Puts};
 
 use crate::style::Order;
 use byteorder::{BigEndian, ByteOrder, LittleEndian};
@@ -32,10 +33,9 @@ pub fn u32_at(order: Order, bytes: &[u8], offset: usize) -> u32
 
 /// Writes a 16-bit number at an offset.
 #[tactic(auto, using(std::proofs::lemmas::Slice::overwrites), unfolding(crate::specs::Layout::number_bytes))]
-pub fn put_u16(order: Order, out: &mut [u8], offset: usize, number: u16)
+pub(crate) fn put_u16(order: Order, out: &mut [u8], offset: usize, number: u16)
     requires { offset + 2 ≤ length out.old }
-    ensures spelled { take (offset + 2) out.new ≡ take offset out.old ++ number_bytes order 2 number }
-    ensures rest { (n : ℕ) → offset + 2 ≤ n → drop n out.new ≡ drop n out.old }
+    ensures { Puts order offset 2 number out.old out.new }
 {
     match order {
         Order::Little => LittleEndian::write_u16(&mut out[offset..offset + 2], number),
@@ -45,10 +45,9 @@ pub fn put_u16(order: Order, out: &mut [u8], offset: usize, number: u16)
 
 /// Writes a 32-bit number at an offset.
 #[tactic(auto, using(std::proofs::lemmas::Slice::overwrites), unfolding(crate::specs::Layout::number_bytes))]
-pub fn put_u32(order: Order, out: &mut [u8], offset: usize, number: u32)
+pub(crate) fn put_u32(order: Order, out: &mut [u8], offset: usize, number: u32)
     requires { offset + 4 ≤ length out.old }
-    ensures spelled { take (offset + 4) out.new ≡ take offset out.old ++ number_bytes order 4 number }
-    ensures rest { (n : ℕ) → offset + 4 ≤ n → drop n out.new ≡ drop n out.old }
+    ensures { Puts order offset 4 number out.old out.new }
 {
     match order {
         Order::Little => LittleEndian::write_u32(&mut out[offset..offset + 4], number),

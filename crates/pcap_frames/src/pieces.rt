@@ -1,10 +1,8 @@
 //! Reads whole captures in memory.
 
-ghost use Rattle.std.specs.Prelude.{◌≡◌, ◌+◌, ◌≤◌, ◌^◌, None, length, map, IfOk};
-ghost use Rattle.pcap_frames.specs.Capture.{Record, first_refusal, style_of, whole_records};
-ghost use Rattle.pcap_frames.specs.Reading.{held, taken};
-ghost use Rattle.pcap_frames.specs.state.Reading.{KeepsAll, KeepsHeld};
-ghost use Rattle.pcap_frames.specs.Pieces.{joined, kept};
+ghost use Rattle.std.specs.Prelude.{◌≤◌, ◌^◌, length, map, IfOk};
+ghost use Rattle.pcap_frames.specs.state.Reading.{CanKeep, KeepsAll, KeepsHeld};
+ghost use Rattle.pcap_frames.specs.Pieces.{ContentsOf, joined, kept};
 
 use crate::reader::Reader;
 use crate::style::Style;
@@ -37,9 +35,7 @@ pub struct Contents {
 /// those of the whole capture, wherever the capture is cut.
 pub fn read_pieces(alloc: Global, pieces: &[Bytes]) -> Result<Contents, NoMemory>
     requires { length (joined pieces.now) ≤ 2 ^ 62 }
-    ensures style { IfOk result (λ all. all.style ≡ style_of (joined pieces.now)) }
-    ensures records { IfOk result (λ all. map kept all.records.items ≡ whole_records (joined pieces.now)) }
-    ensures refusal { IfOk result (λ all. all.refusal ≡ first_refusal (joined pieces.now)) }
+    ensures { IfOk result (ContentsOf (joined pieces.now)) }
 {
     let mut reader = Reader::new(alloc)?;
     let mut records = Vec::new(alloc);
@@ -61,8 +57,7 @@ fn read_piece(
     records: &mut Vec<KeptRecord>,
     piece: &[u8],
 ) -> Result<(), NoMemory>
-    requires bounded { taken reader.old + length piece.now ≤ 2 ^ 62 }
-    requires free { held reader.old ≡ None }
+    requires { CanKeep reader.old piece.now }
     ensures { KeepsAll reader.old (map kept records.old.items) piece.now result reader.new (map kept records.new.items) }
 {
     let mut used = 0;

@@ -1,14 +1,11 @@
 //! Reads the records of a capture, in pieces of any length.
 
-ghost use Rattle.std.specs.Option.{option_to_list};
-ghost use Rattle.std.specs.Result.{result_err};
-ghost use Rattle.pcap_frames.specs.Layout.{IsRecordTime, record_refusal};
-ghost use Rattle.pcap_frames.specs.Capture.{Record, Holds, style_of};
-ghost use Rattle.pcap_frames.specs.Readers.{Ends, Feeds, Releases, Views, shown};
+ghost use Rattle.pcap_frames.specs.Capture.{Record, style_of};
+ghost use Rattle.pcap_frames.specs.Readers.{Feeds, FindsNext, IsView, Views};
 ghost use Rattle.pcap_frames.specs.state.Readers.{Advances};
-ghost use Rattle.pcap_frames.specs.Reading.{HasRead, IsNext, Passes, held, meaning, nothing_read, progress, taken, with_part};
+ghost use Rattle.pcap_frames.specs.Reading.{Finishes, HasRead, IsNext, LetsGo, Passes, held, meaning, nothing_read, progress, taken, with_part};
 ghost use Rattle.pcap_frames.specs.state.Reading.{CanFill, Fills, IsBefore, TakesHeader, ending};
-ghost use Rattle.std.specs.Prelude.{ℕ, List, IfSome, IsSome, is_some, ◌≡◌, ◌+◌, ◌<◌, ◌≤◌, ◌^◌, ◌++◌, false, length, take, None, Some, IfOk, [], vec_capacity};
+ghost use Rattle.std.specs.Prelude.{ℕ, List, is_some, ◌≡◌, ◌+◌, ◌≤◌, ◌^◌, length, None, Some, IfOk, [], vec_capacity};
 
 use crate::layout::{self, FILE_HEADER, RECORD_HEADER, RECORD_LIMIT};
 use crate::numbers::u32_at;
@@ -172,10 +169,7 @@ impl Reader {
 
     /// Drops the held record, to make room for the next one. Returns whether a record was held.
     pub fn release(&mut self) -> bool
-        ensures answer { result ≡ is_some (held self.old) }
-        ensures releases { Releases (progress self.old) (progress self.new) }
-        ensures still { result ≡ false → self.new ≡ self.old }
-        ensures style { self.new.style ≡ self.old.style }
+        ensures { LetsGo self.old result self.new }
     {
         if !self.is_whole() {
             return false;
@@ -190,10 +184,7 @@ impl Reader {
     /// The result is `None` before the end of the file header. The result is also `None` if some bytes of the record
     /// were taken, a field is refused, or the record continues after the piece. At `None` the piece must be fed.
     pub fn whole_ahead(&self, piece: &[u8]) -> Option<usize>
-        ensures within { IfSome result (λ size. size ≤ length piece.now) }
-        ensures limit { IfSome result (λ size. size ≤ 262160) }
-        ensures next { IfSome result (λ size. IsNext self.now (take size piece.now)) }
-        ensures none { result ≡ None → (size : ℕ) → IsNext self.now (take size piece.now) → ⊥ }
+        ensures { FindsNext (IsNext self.now) piece.now result }
     {
         if self.refusal.is_some() || !self.part.is_empty() {
             return None;
@@ -206,8 +197,7 @@ impl Reader {
     /// record.
     pub fn lend<'a>(&self, bytes: &'a [u8]) -> RecordView<'a>
         requires { IsNext self.now bytes.now }
-        ensures exact { held (with_part self.now bytes.now) ≡ Some (shown result) }
-        ensures time { IsRecordTime result.arrival }
+        ensures { IsView (held (with_part self.now bytes.now)) result }
     {
         let Some(style) = self.style else {
             unreachable!()
@@ -221,8 +211,7 @@ impl Reader {
     pub fn pass(&mut self, bytes: &[u8])
         requires next { IsNext self.old bytes.now }
         requires bounded { taken self.old + length bytes.now ≤ 2 ^ 62 }
-        ensures exact { self.new ≡ record self.old { start = self.old.start + length bytes.now } }
-        ensures passed { Passes self.old bytes.now self.new }
+        ensures { Passes self.old bytes.now self.new }
     {
         self.start += bytes.len() as u64;
     }
@@ -233,8 +222,7 @@ impl Reader {
     /// earlier `feed` returned a refusal, the call refuses the first field that lacks a byte, and this refusal has
     /// `short` set. A held record counts as whole. The call changes nothing, and more bytes can be fed afterwards.
     pub fn finish(&self) -> Result<(), Refusal>
-        ensures exact { (bytes : List ℕ) (records : List Record) → HasRead self.now bytes records → Holds bytes (records ++ option_to_list (held self.now)) (result_err result) }
-        ensures ends { Ends meaning (progress self.now) result }
+        ensures { Finishes self.now result }
     {
         match self.missing() {
             None => Ok(()),

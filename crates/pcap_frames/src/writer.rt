@@ -1,9 +1,8 @@
 //! Writes captures in their canonical spelling.
 
-ghost use Rattle.std.specs.Prelude.{◌≡◌, ◌≤ℤ◌, ◌<ℤ◌, ◌*◌, ◌%◌, ◌^◌, ◌++◌, List, ℕ, pos, nat_abs, length};
+ghost use Rattle.std.specs.Prelude.{◌≡◌, ◌++◌, List, ℕ, length};
 ghost use Rattle.avtp_base.specs.Rows.{Writes};
-ghost use Rattle.pcap_frames.specs.Layout.{scale};
-ghost use Rattle.pcap_frames.specs.Capture.{HasSpelling, header_spelling, record_spelling};
+ghost use Rattle.pcap_frames.specs.Capture.{HasSpelling, IsArrival, header_spelling, record_spelling};
 
 use crate::layout::{FILE_HEADER, MAGIC_MICRO, MAGIC_NANO, RECORD_HEADER, RECORD_LIMIT};
 use crate::numbers::{put_u16, put_u32};
@@ -68,9 +67,7 @@ pub fn write_record(
 /// of 1000. `orig_len` is the frame's length on the wire.
 #[inline(always)]
 pub fn record_header(style: Style, arrival: i64, incl_len: u32, orig_len: u32) -> [u8; 16]
-    requires begun { pos 0 ≤ℤ arrival }
-    requires ended { arrival <ℤ pos (2 ^ 32 * 1000000000) }
-    requires whole { nat_abs arrival % scale style.unit ≡ 0 }
+    requires { IsArrival style arrival }
     ensures { (bytes : List ℕ) → length bytes ≡ incl_len → result ++ bytes ≡ record_spelling style (record { arrival = arrival; orig_len = orig_len; bytes = bytes }) }
 {
     let nanoseconds = arrival as u64;

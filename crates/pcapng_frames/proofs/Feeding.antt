@@ -1,22 +1,24 @@
 -- What each step of feeding does to a reader.
-use Rattle.std.proofs.Common.{◌≡◌, ℕ, ◌+◌, ◌-◌, ◌%◌, ◌≤◌, ◌<◌, Bool, true, false, List, [], ◌++◌, length, drop, take, Option, Some, None, is_some, IfSome, refl, ap, sym, ◌∙◌, arith, append_assoc}
-use Rattle.std.proofs.lemmas.List.{take-append-drop}
+use Rattle.std.proofs.Common.{◌≡◌, ℕ, ◌+◌, ◌-◌, ◌%◌, ◌≤◌, ◌<◌, Bool, true, false, List, [], ◌++◌, length, drop, take, Option, Some, None, is_some, IfSome, refl, ap, sym, ◌∙◌, arith, append_assoc, length-drop, ℤ}
+use Rattle.std.proofs.lemmas.List.{take-append-drop, take_all}
 use Rattle.std.proofs.lemmas.Bool.Decides.{nat_tests}
 use Rattle.std.specs.Option.{option_to_list}
 use Rattle.avtp_base.specs.declared.refusal.Refusal.{Refusal}
 use Rattle.pcap_frames.specs.Capture.{Record}
-use Rattle.pcapng_frames.specs.declared.block.Cursor.{Cursor}
-use Rattle.pcapng_frames.specs.declared.block.PacketHead.{PacketHead}
-use Rattle.pcapng_frames.specs.declared.block.Stage.{Stage}
-use Rattle.pcapng_frames.specs.declared.block.Stage.TheVariants as stage
-use Rattle.pcapng_frames.specs.declared.interface.Interface.{Interface}
+use Rattle.pcapng_frames.specs.declared.cursor.Cursor.{Cursor}
+use Rattle.pcapng_frames.specs.declared.cursor.PacketHead.{PacketHead}
+use Rattle.pcapng_blocks.specs.declared.block.Stage.{Stage}
+use Rattle.pcapng_blocks.specs.declared.block.Stage.TheVariants as stage
+use Rattle.pcapng_blocks.specs.declared.interface.Interface.{Interface}
 use Rattle.pcap_frames.specs.declared.style.Order.{Order}
-use Rattle.pcapng_frames.specs.Blocks.{Place, Contents, refusal_here, refusal_by, order_or_little, block_refused, option_refused, trailer_refused, ends, after_any, size_of_any, and_then, after_trailer}
-use Rattle.pcapng_frames.specs.Reading.{Reading, HasRead, passed_by, held_by, after_all, contents_past, contents_at, rest_of, rest_by}
-use Rattle.pcapng_frames.specs.state.Reading.{Takes, IsAt, IsReader, IsReading, IsWhole, IsPart, IsAhead, IsFree, IsUnpacked, HasHead, is_inside, place_of, packet_of, part_at, need_by, block_need, option_need}
-use Rattle.pcapng_frames.proofs.Moves.{reading, going, gathered, past_none}
-use Rattle.pcapng_frames.proofs.Options.{at_option_place, at_trailer_place, trailer_moves}
-use Rattle.pcapng_frames.proofs.Blocks.{at_block, block_moves, block_stops}
+use Rattle.pcapng_blocks.specs.Blocks.{Place, Contents, refusal_here, refusal_by, order_or_little, block_refused, option_refused, trailer_refused, ends, after_any, size_of_any, and_then, after_trailer, record_by, contents_at}
+use Rattle.pcapng_frames.specs.Reading.{Reading, HasRead, passed_by, held_by, after_all, contents_past, rest_of, rest_by}
+use Rattle.pcapng_frames.specs.state.Reading.{Takes, IsAt, IsReader, IsReading, IsWhole, IsPart, IsAhead, IsFree, IsUnpacked, HasHead, is_inside, place_of, packet_of, part_at, need_by, packet_with}
+use Rattle.pcapng_blocks.specs.state.Needs.{block_need, option_need}
+use Rattle.pcapng_frames.proofs.Moves.{reading, going, gathered, past_none, trailer_moves, block_moves, block_stops}
+use Rattle.pcapng_blocks.proofs.Options.{at_option_place, at_trailer_place}
+use Rattle.pcapng_blocks.proofs.Blocks.{at_block}
+use Rattle.pcap_frames.specs.Layout.{number_at}
 
 pub is_part : (refusal : Option Refusal) (whole : Bool) (p : Place) (skip : ℕ) (part : List ℕ) → refusal ≡ None → whole ≡ false → IsReading refusal whole p skip part → IsPart p skip part
 is_part refusal whole p skip part none partial h = rw (none, partial) at h
@@ -434,3 +436,9 @@ held_going None true packet some = (refl, refl)
 pub held_free : (refusal : Option Refusal) (packet : Option Record) → held_by refusal false packet ≡ None
 held_free None packet = refl
 held_free (Some why) packet = refl
+
+-- the fixed fields and the captured bytes of a packet give the packet of the block
+pub packet_is : (head : PacketHead) (arrival : Option ℤ) (order : Order) (part : List ℕ) → Some head.arrival ≡ arrival → head.orig_len ≡ number_at order 24 4 part → length part ≡ 28 + number_at order 20 4 part
+    → Some (packet_with head part) ≡ record_by arrival order part
+packet_is head arrival order part e l size =
+    rw (← e, l, take_all (number_at order 20 4 part) (drop 28 part) (omega (arith, length-drop 28 part))) refl

@@ -1,12 +1,4 @@
-pub mod Choices
-pub mod Numbers
-pub mod Stay
-pub mod Places
 pub mod Moves
-pub mod Heads
-pub mod Blocks
-pub mod Options
-pub mod Needs
 pub mod Feeding
 pub mod Rest
 pub mod Lent

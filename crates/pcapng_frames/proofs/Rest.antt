@@ -7,27 +7,27 @@ use Rattle.std.proofs.lemmas.List.{append-nil}
 use Rattle.std.proofs.Math.Seq.{drop-nil}
 use Rattle.avtp_base.specs.declared.refusal.Refusal.{Refusal}
 use Rattle.avtp_base.specs.declared.field.Field.TheVariants.{BlockType, BlockLength, BlockBody, Interfaces}
-use Rattle.pcapng_frames.specs.Fields.{refusal_at}
+use Rattle.pcapng_blocks.specs.Fields.{refusal_at}
 use Rattle.pcap_frames.specs.Capture.{Record}
 use Rattle.pcap_frames.specs.declared.style.Order.{Order}
-use Rattle.pcapng_frames.specs.declared.block.Cursor.{Cursor}
-use Rattle.pcapng_frames.specs.declared.block.PacketHead.{PacketHead}
-use Rattle.pcapng_frames.specs.declared.interface.Interface.{Interface}
-use Rattle.pcapng_frames.specs.declared.block.Stage.{Stage}
-use Rattle.pcapng_frames.specs.declared.block.Stage.TheVariants as stage
-use Rattle.pcapng_frames.specs.Blocks.{Place, Contents, Ending, short_at, is_interface, kind_at, contents, settled, whole_records, first_refusal, refusal_of, refusal_here, size_here, refused_or, and_then, packet_by, next_place, cut_short, cut_by, ends_at, ends, after_trailer, order_or_little}
+use Rattle.pcapng_frames.specs.declared.cursor.Cursor.{Cursor}
+use Rattle.pcapng_frames.specs.declared.cursor.PacketHead.{PacketHead}
+use Rattle.pcapng_blocks.specs.declared.interface.Interface.{Interface}
+use Rattle.pcapng_blocks.specs.declared.block.Stage.{Stage}
+use Rattle.pcapng_blocks.specs.declared.block.Stage.TheVariants as stage
+use Rattle.pcapng_blocks.specs.Blocks.{Place, Contents, Ending, short_at, is_interface, kind_at, contents, settled, whole_records, first_refusal, refusal_of, refusal_here, size_here, refused_or, and_then, packet_by, next_place, cut_short, cut_by, ends_at, ends, after_trailer, order_or_little, contents_at}
 use Rattle.std.specs.Prelude.{IfSome, Result, Err}
 use Rattle.std.specs.Result.{result_err}
 use Rattle.pcap_frames.specs.Readers.{Ends, GoesOn, IsRefusedAfter}
 use Rattle.pcap_frames.specs.state.Readers.{IsSure}
-use Rattle.pcapng_frames.specs.Reading.{Reading, HasRead, contents_at, contents_past, rest_of, after_all, refused_after, held, held_by, meaning, progress}
+use Rattle.pcapng_frames.specs.Reading.{Reading, HasRead, contents_past, rest_of, after_all, refused_after, held, held_by, meaning, progress}
 use Rattle.pcapng_frames.specs.state.Reading.{IsReading, IsPart, IsAhead, lacks_by, HasHead, packet_of, place_of}
-use Rattle.pcapng_frames.proofs.Places.{unroll, size_some}
+use Rattle.pcapng_blocks.proofs.Places.{unroll, size_some}
 use Rattle.pcapng_frames.proofs.Moves.{goes_on, reading}
-use Rattle.pcapng_frames.proofs.Blocks.{at_block, size_at_block}
-use Rattle.pcapng_frames.proofs.Options.{at_option_place, option_lacks, size_at_option, size_at_trailer}
-use Rattle.pcapng_frames.proofs.Needs.{block_lacks}
-use Rattle.pcapng_frames.proofs.Choices.{long_enough}
+use Rattle.pcapng_blocks.proofs.Blocks.{at_block, size_at_block}
+use Rattle.pcapng_blocks.proofs.Options.{at_option_place, option_lacks, size_at_option, size_at_trailer}
+use Rattle.pcapng_blocks.proofs.Needs.{block_lacks}
+use Rattle.pcapng_blocks.proofs.Choices.{long_enough}
 use Rattle.pcapng_frames.proofs.Feeding.{need_in_block, need_in_option, need_in_trailer, none_refused, refused_rest, is_whole}
 
 settled_if : (b : Bool) (e : Ending) → e.cut ≡ true → settled (if b then ends None else ends (Some e)).ending ≡ None

@@ -1,16 +1,14 @@
 -- What the state of a reader means: which bytes it has taken, and which packets it has released.
-use Rattle.std.specs.Prelude.{◌≡◌, ℕ, suc, ◌+◌, ◌-◌, ◌≤◌, Bool, true, false, is_some, nat_lt, if◌then◌else◌, List, [], ◌++◌, length, drop, Option, Some, None}
+use Rattle.std.specs.Prelude.{◌≡◌, ℕ, ◌+◌, ◌-◌, Bool, true, false, is_some, nat_lt, if◌then◌else◌, List, [], ◌++◌, length, drop, Option, Some, None}
 use Rattle.avtp_base.specs.declared.field.Field.TheVariants.{BlockBody}
 use Rattle.avtp_base.specs.declared.refusal.Refusal.{Refusal}
 use Rattle.pcap_frames.specs.Capture.{Record}
-use Rattle.pcap_frames.specs.Readers.{Meaning, Progress}
-use Rattle.pcap_frames.specs.declared.style.Order.{Order}
-use Rattle.pcapng_frames.specs.declared.block.Kind.TheVariants as kind
-use Rattle.pcapng_frames.specs.declared.block.Stage.{Stage}
-use Rattle.pcapng_frames.specs.declared.block.Stage.TheVariants as stage
-use Rattle.pcapng_frames.specs.declared.interface.Interface.{Interface}
-use Rattle.pcapng_frames.specs.Fields.{first_refused, kind_of, number_at, packet_rows}
-use Rattle.pcapng_frames.specs.Blocks.{Place, Contents, after_block, order_or_little, contents, contents_from, whole_records, first_refusal, settled, ends, and_then, first_place, after_trailer, short_at}
+use Rattle.pcap_frames.specs.Readers.{Meaning, Progress, Releases}
+use Rattle.pcapng_blocks.specs.declared.block.Kind.TheVariants as kind
+use Rattle.pcapng_blocks.specs.declared.block.Stage.{Stage}
+use Rattle.pcapng_blocks.specs.declared.block.Stage.TheVariants as stage
+use Rattle.pcapng_blocks.specs.Packets.{IsPacketBlock}
+use Rattle.pcapng_blocks.specs.Blocks.{Place, Contents, after_block, order_or_little, contents, contents_at, whole_records, first_refusal, settled, ends, and_then, first_place, after_trailer, short_at}
 
 -- The state of a reader. Once the reader has skipped `skip` further bytes, it reads at `place`. `part` are the bytes
 -- that were taken from `place` on. `whole` tells whether the block's packet is whole. `refusal` is the refusal that the
@@ -25,10 +23,6 @@ pub record Reading : Type 0 where
 -- a reader that has taken nothing
 abbrev pub nothing_read : Reading
 nothing_read = record { place = first_place; skip = 0; part = []; whole = false; refusal = None }
-
--- the contents of the bytes, which begin at this place
-abbrev pub contents_at : Place → List ℕ → Contents
-contents_at p bytes = contents_from (suc (length bytes)) p bytes
 
 -- The contents of the capture from the reader's place on, if `more` are the bytes that follow the taken bytes. The
 -- first `skip` bytes of `more` precede the place. `part` are the bytes that were taken from the place on.
@@ -97,15 +91,6 @@ refused_after records refusal = record { records = records; ending = Some (recor
 
 -- ---- a packet that is borrowed
 
--- The bytes are a whole enhanced packet block, in a section with this byte order and these interfaces. Nothing in the
--- block is refused.
-pub record IsPacketBlock (order : Order) (interfaces : List Interface) (block : List ℕ) : Type 0 where
-  pub kind : kind_of (number_at order 0 4 block) ≡ kind.Packet
-  pub accepted : first_refused 0 (length block) (packet_rows order interfaces block) ≡ None
-  pub total : number_at order 4 4 block ≡ length block
-  pub trailer : number_at order 0 4 (drop (length block - 4) block) ≡ length block
-  pub long : 32 ≤ length block
-
 -- `block` is the block of the next packet, and none of its bytes was taken yet. After taking the bytes, the reader
 -- holds the packet.
 pub record IsNext (r : Reading) (block : List ℕ) : Type 0 where
@@ -130,3 +115,10 @@ with_block r block = record {
 -- the state of the reader after the reader took the block of the next packet and released the packet
 abbrev pub passing : Reading → List ℕ → Reading
 passing r block = record r { place = record r.place { start = r.place.start + length block } }
+
+-- What the call `release` does. The result says whether a packet was held. A held packet is released; without one, the
+-- reader is unchanged.
+pub record LetsGo (old : Reading) (result : Bool) (new : Reading) : Type 0 where
+  pub answer : result ≡ is_some (held old)
+  pub releases : Releases (progress old) (progress new)
+  pub still : result ≡ false → new ≡ old

@@ -1,12 +1,8 @@
 //! Captures in the pcapng layout, in pieces of any length.
 #![tactic(auto)]
 
-mod block;
-mod interface;
-mod interfaces;
-mod layout;
+mod cursor;
 mod reader;
-mod refusals;
 mod steps;
 
 pub use reader::Ng;

@@ -1,20 +1,20 @@
 //! Reads the packets of a pcapng capture, in pieces of any length.
 
-ghost use Rattle.std.specs.Prelude.{ℕ, List, IfSome, IsSome, ◌⊎◌, ◌↔◌, is_some, ◌≡◌, ◌+◌, ◌<◌, ◌≤◌, ◌^◌, false, length, take, None, Some, Ok, IfOk, [], vec_capacity};
-ghost use Rattle.pcap_frames.specs.Layout.{IsRecordTime};
-ghost use Rattle.pcap_frames.specs.Readers.{Ends, Feeds, Releases, Views, shown};
+ghost use Rattle.std.specs.Prelude.{is_some, ◌≡◌, ◌+◌, ◌≤◌, ◌^◌, length, None, Ok, IfOk};
+ghost use Rattle.pcap_frames.specs.Readers.{Ends, Feeds, FindsNext, IsView, Views};
 ghost use Rattle.pcap_frames.specs.state.Readers.{Accepts, Advances, IsSure};
-ghost use Rattle.pcapng_frames.specs.declared.block.Stage.TheVariants as stage;
-ghost use Rattle.pcapng_frames.specs.Reading.{HasRead, IsNext, held, meaning, nothing_read, passing, progress, taken, with_block};
-ghost use Rattle.pcapng_frames.specs.state.Reading.{IsAt, IsGoing, TakesSome, lacks};
+ghost use Rattle.pcapng_blocks.specs.declared.block.Stage.TheVariants as stage;
+ghost use Rattle.pcapng_frames.specs.Reading.{IsNext, LetsGo, held, meaning, nothing_read, passing, progress, taken, with_block};
+ghost use Rattle.pcapng_frames.specs.state.Reading.{IsAt, IsGoing, IsSkipping, TakesSome, lacks};
 
-use crate::block::{Cursor, Stage};
-use crate::interfaces::Interfaces;
-use crate::{layout, refusals, steps};
+use crate::cursor::Cursor;
+use crate::steps;
 use avtp_base::rows::cut_off;
 use avtp_base::{Field, NoMemory, Refusal};
-use pcap_frames::RecordView;
 use pcap_frames::part::gather;
+use pcap_frames::{Order, RecordView};
+use pcapng_blocks::packet::{packet_size, packet_view};
+use pcapng_blocks::{Interfaces, Stage, layout, refusals};
 use std::alloc::Global;
 use std::marker::Model;
 
@@ -60,8 +60,7 @@ impl Ng {
     /// A reader that has taken nothing. This call allocates the memory of one packet and of 256 interfaces. Later calls
     /// allocate nothing.
     pub fn new(alloc: Global) -> Result<Self, NoMemory>
-        ensures empty { IfOk result (λ reader. reader ≡ nothing_read) }
-        ensures read { IfOk result (λ reader. HasRead reader [] []) }
+        ensures { IfOk result (λ reader. reader ≡ nothing_read) }
     {
         let interfaces = Interfaces::new(alloc)?;
         let Ok(part) = Vec::with_capacity(alloc, PART_ROOM) else {
@@ -138,9 +137,7 @@ impl Ng {
 
     /// Drops the held packet, to make room for the next one. Returns whether a packet was held.
     pub fn release(&mut self) -> bool
-        ensures answer { result ≡ is_some (held self.old) }
-        ensures releases { Releases (progress self.old) (progress self.new) }
-        ensures still { result ≡ false → self.new ≡ self.old }
+        ensures { LetsGo self.old result self.new }
     {
         if !self.is_whole() {
             return false;
@@ -160,17 +157,18 @@ impl Ng {
     /// taken, a field is refused, or the block continues after the piece. If the result is `None`, feed the piece.
     #[inline(always)]
     pub fn whole_ahead(&self, piece: &[u8]) -> Option<usize>
-        ensures within { IfSome result (λ size. size ≤ length piece.now) }
-        ensures next { IfSome result (λ size. IsNext self.now (take size piece.now)) }
-        ensures none { result ≡ None → (size : ℕ) → IsNext self.now (take size piece.now) → ⊥ }
+        ensures { FindsNext (IsNext self.now) piece.now result }
     {
         if self.refusal.is_some() || !self.part.is_empty() {
             return None;
         }
         match self.cursor.stage {
             Stage::Block => {
-                let order = self.cursor.order?;
-                steps::packet_size(order, &self.interfaces, piece)
+                // In each of the two calls, the compiler knows the byte order.
+                match self.cursor.order? {
+                    Order::Little => packet_size(Order::Little, &self.interfaces, piece),
+                    Order::Big => packet_size(Order::Big, &self.interfaces, piece),
+                }
             }
             _ => None,
         }
@@ -180,11 +178,13 @@ impl Ng {
     #[inline(always)]
     pub fn lend<'a>(&self, block: &'a [u8]) -> RecordView<'a>
         requires { IsNext self.now block.now }
-        ensures exact { held (with_block self.now block.now) ≡ Some (shown result) }
-        ensures time { IsRecordTime result.arrival }
+        ensures { IsView (held (with_block self.now block.now)) result }
     {
-        let order = layout::order_or_little(self.cursor.order);
-        layout::packet_view(order, &self.interfaces, block)
+        // In each of the two calls, the compiler knows the byte order.
+        match layout::order_or_little(self.cursor.order) {
+            Order::Little => packet_view(Order::Little, &self.interfaces, block),
+            Order::Big => packet_view(Order::Big, &self.interfaces, block),
+        }
     }
 
     /// Skips the block of the next packet, as if its bytes had been fed and the packet released.
@@ -228,7 +228,7 @@ impl Ng {
         }
         let cursor = self.cursor;
         match cursor.stage {
-            Stage::Block => refusals::missing_of_block(
+            Stage::Block => steps::missing_of_block(
                 cursor.order,
                 self.interfaces.len(),
                 cursor.start,
@@ -240,8 +240,7 @@ impl Ng {
 
     /// Takes bytes that are to be skipped. None of these bytes is kept, so a skipped block may have any length.
     fn skip(&mut self, piece: &[u8]) -> usize
-        requires going { IsGoing self.old piece.now }
-        requires some { 0 < self.old.skip }
+        requires { IsSkipping self.old piece.now }
         ensures { TakesSome self.old piece.now (Ok result) self.new }
     {
         let taken = piece.len().min(self.cursor.skip as usize);
@@ -313,7 +312,7 @@ impl Ng {
         let taken = gather(&mut self.tail, 4, piece);
         let tail = self.tail.as_slice();
         let at = cursor.start + u64::from(cursor.total - 4);
-        let refusal = refusals::trailer_refusal(order, at, cursor.total, tail);
+        let refusal = steps::trailer_refusal(order, at, cursor.total, tail);
         match refusal {
             Some(refusal) => {
                 self.refusal = Some(refusal);
@@ -353,6 +352,6 @@ impl Ng {
             return None;
         }
         let packet = self.cursor.packet?;
-        Some(layout::view(packet, self.part.as_slice()))
+        Some(steps::view(packet, self.part.as_slice()))
     }
 }

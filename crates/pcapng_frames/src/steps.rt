@@ -1,26 +1,30 @@
 //! How a cursor moves on: how many bytes are read of a block, an option or a trailer, and the cursor after them.
 
-ghost use Rattle.std.specs.Prelude.{ℕ, List, [], ◌≡◌, ◌+◌, ◌-◌, ◌<◌, ◌≤◌, ◌^◌, ◌%◌, is_none, length, take, IfSome, None};
-ghost use Rattle.pcap_frames.specs.Layout.{IsRecordTime, number_at};
-ghost use Rattle.pcapng_frames.specs.state.Reading.{IsPacketSize};
-ghost use Rattle.pcapng_frames.specs.state.Reading.{IsAfterHead, IsAfterOption, IsHead, IsOption, IsPast, block_need as need_of_block, option_need as need_of_option, head_need, packet_of, place_of};
-ghost use Rattle.pcapng_frames.specs.declared.interface.Interface.{Interface};
-ghost use Rattle.pcapng_frames.specs.Fields.{first_refused, option_code, packet_arrival as arrival_in, packet_rows};
-ghost use Rattle.pcapng_frames.specs.Blocks.{described as interface_described, kind_at as kind_in, order_or_little as order_or, record_by, size_of_option};
-ghost use Rattle.pcapng_frames.specs.declared.block.Kind.TheVariants as kind;
+ghost use Rattle.std.specs.Prelude.{ℕ, List, [], ◌≡◌, ◌<◌, ◌≤◌, ◌^◌, false, length, IfSome, Some};
+ghost use Rattle.pcap_frames.specs.Layout.{IsRecordTime};
+ghost use Rattle.pcap_frames.specs.Readers.{Views};
+ghost use Rattle.pcapng_blocks.specs.state.Needs.{IsHead, block_need as need_of_block, option_need as need_of_option, head_need};
+ghost use Rattle.pcapng_frames.specs.state.Reading.{HasPacket, HeadsPacket, IsAfterHead, IsAfterOption, IsOption, IsOptionSize, IsPast, lacks_by, packet_with, place_of};
+ghost use Rattle.pcapng_blocks.specs.declared.interface.Interface.{Interface};
+ghost use Rattle.pcapng_blocks.specs.Fields.{option_code};
+ghost use Rattle.pcapng_blocks.specs.Blocks.{Place, described as interface_described, kind_at as kind_in, order_or_little as order_or, trailer_refused as refused_in_trailer};
+ghost use Rattle.pcapng_blocks.specs.declared.block.Kind.TheVariants as kind;
+ghost use Rattle.pcapng_blocks.specs.declared.block.Stage.TheVariants as stage;
 
-use crate::block::{Cursor, Kind, PacketHead, Stage};
-use crate::interface::{Interface, MICROSECONDS};
-use crate::interfaces::Interfaces;
-use crate::layout::{
-    END_OF_OPTIONS, ENHANCED_PACKET, IF_TSOFFSET, IF_TSRESOL, PACKET_HEAD, PACKET_LIMIT, i64_at,
-    kind_at, order_of_magic, order_or_little, packet_arrival, padded,
-};
-use pcap_frames::Order;
+use crate::cursor::{Cursor, PacketHead};
+use avtp_base::rows::{cut_off, refused};
+use avtp_base::{Field, Refusal};
 use pcap_frames::numbers::{u16_at, u32_at};
+use pcap_frames::{Order, RecordView};
+use pcapng_blocks::layout::{
+    END_OF_OPTIONS, IF_TSOFFSET, IF_TSRESOL, PACKET_HEAD, i64_at, kind_at, order_of_magic,
+    order_or_little, padded,
+};
+use pcapng_blocks::packet::packet_arrival;
+use pcapng_blocks::{INTERFACE_LIMIT, Interface, Interfaces, Kind, MICROSECONDS, Stage};
 
 /// How many bytes of a block must be taken before more is known of it.
-#[tactic(auto, unfolding(crate::specs::state::Reading::block_need))]
+#[tactic(auto, unfolding(pcapng_blocks::specs::state::Needs::block_need))]
 pub fn block_need(order: Option<Order>, part: &[u8]) -> usize
     ensures { result ≡ need_of_block order part.now }
 {
@@ -128,69 +132,14 @@ fn after_packet(cursor: Cursor, interfaces: &Interfaces, part: &[u8]) -> Cursor
 
 /// The fixed fields of an enhanced packet, if its timestamp is in range.
 fn packet_head(order: Order, interfaces: &Interfaces, part: &[u8]) -> Option<PacketHead>
-    requires whole { length part.now ≡ 28 + number_at order 20 4 part.now }
-    requires known { number_at order 8 4 part.now < length interfaces.now }
-    ensures exact { packet_of result part.now ≡ record_by (arrival_in order interfaces.now part.now) order part.now }
-    ensures time { IfSome result (λ head. IsRecordTime head.arrival) }
+    requires { HasPacket order interfaces.now part.now }
+    ensures { HeadsPacket order interfaces.now part.now result }
 {
     let arrival = packet_arrival(order, interfaces, part)?;
     Some(PacketHead {
         arrival,
         orig_len: u32_at(order, part, 24),
     })
-}
-
-/// Whether no fixed field of an enhanced packet is refused.
-#[inline(always)]
-fn accepts_packet(order: Order, interfaces: &Interfaces, bytes: &[u8]) -> bool
-    requires long { 28 ≤ length bytes.now }
-    ensures { result ≡ is_none (first_refused 0 (length bytes.now) (packet_rows order interfaces.now bytes.now)) }
-{
-    let total = u32_at(order, bytes, 4);
-    let captured = u32_at(order, bytes, 20);
-    total % 4 == 0
-        && (u32_at(order, bytes, 8) as usize) < interfaces.len()
-        && captured <= PACKET_LIMIT
-        && 32 + padded(captured) <= u64::from(total)
-        && packet_arrival(order, interfaces, bytes).is_some()
-}
-
-/// The size of the enhanced packet block that the bytes begin with, if the bytes contain the whole block and nothing in
-/// the block is refused.
-#[inline(always)]
-pub fn packet_size(order: Order, interfaces: &Interfaces, bytes: &[u8]) -> Option<usize>
-    ensures { IsPacketSize order interfaces.now bytes.now result }
-{
-    // In each of the two calls, the compiler knows the byte order.
-    match order {
-        Order::Little => size_in(Order::Little, interfaces, bytes),
-        Order::Big => size_in(Order::Big, interfaces, bytes),
-    }
-}
-
-/// The size of the enhanced packet block that the bytes begin with, for a byte order that the compiler knows.
-#[inline(always)]
-fn size_in(order: Order, interfaces: &Interfaces, bytes: &[u8]) -> Option<usize>
-    ensures { IsPacketSize order interfaces.now bytes.now result }
-{
-    if bytes.len() < PACKET_HEAD {
-        return None;
-    }
-    if u32_at(order, bytes, 0) != ENHANCED_PACKET {
-        return None;
-    }
-    if !accepts_packet(order, interfaces, bytes) {
-        return None;
-    }
-    let total = u32_at(order, bytes, 4);
-    let size = total as usize;
-    if bytes.len() < size {
-        return None;
-    }
-    if u32_at(order, &bytes[size - 4..], 0) != total {
-        return None;
-    }
-    Some(size)
 }
 
 /// The cursor after the bytes that are read at the start of a block.
@@ -207,7 +156,7 @@ pub fn after_block(cursor: Cursor, interfaces: &Interfaces, part: &[u8]) -> Curs
 }
 
 /// How many bytes of an option must be taken before more is known of it.
-#[tactic(auto, unfolding(crate::specs::state::Reading::option_need))]
+#[tactic(auto, unfolding(pcapng_blocks::specs::state::Needs::option_need))]
 pub fn option_need(order: Order, tail: &[u8]) -> usize
     ensures { result ≡ need_of_option order tail.now }
 {
@@ -223,12 +172,10 @@ pub fn option_need(order: Order, tail: &[u8]) -> usize
 
 /// The length of an option, with its header and the padding of its value. An option with code 0 ends the options. The
 /// length of an option with code 0 is the number of all remaining bytes of options.
-#[tactic(auto, unfolding(crate::specs::Blocks::option_refused))]
+#[tactic(auto, unfolding(pcapng_blocks::specs::Blocks::option_refused))]
 fn option_size(cursor: Cursor, tail: &[u8]) -> u32
     requires { IsOption cursor tail.now }
-    ensures exact { result ≡ size_of_option (order_or cursor.order) cursor.left tail.now }
-    ensures within { result ≤ cursor.left }
-    ensures four { (cursor.left - result) % 4 ≡ 0 }
+    ensures { IsOptionSize (order_or cursor.order) cursor.left tail.now result }
 {
     let order = order_or_little(cursor.order);
     if u16_at(order, tail, 0) == END_OF_OPTIONS {
@@ -238,7 +185,7 @@ fn option_size(cursor: Cursor, tail: &[u8]) -> u32
 }
 
 /// The interface that is being described, if there is one, after one more of its options.
-#[tactic(auto, unfolding(crate::specs::state::Reading::option_need))]
+#[tactic(auto, unfolding(pcapng_blocks::specs::state::Needs::option_need))]
 fn with_option(cursor: Cursor, tail: &[u8]) -> Option<Interface>
     requires { IsOption cursor tail.now }
     ensures { let order = order_or cursor.order in result ≡ interface_described order (option_code order tail.now) cursor.interface tail.now }
@@ -259,7 +206,7 @@ fn with_option(cursor: Cursor, tail: &[u8]) -> Option<Interface>
 }
 
 /// The cursor after an option.
-#[tactic(auto, using(crate::proofs::Options::option_fits, crate::proofs::Options::option_small, crate::proofs::Options::option_resolved, crate::proofs::Options::described_room))]
+#[tactic(auto, using(pcapng_blocks::proofs::Options::option_fits, pcapng_blocks::proofs::Options::option_small, pcapng_blocks::proofs::Options::option_resolved, pcapng_blocks::proofs::Options::described_room))]
 pub fn after_option(cursor: Cursor, tail: &[u8]) -> Cursor
     requires { IsOption cursor tail.now }
     ensures { (front : List ℕ) (xs : List Interface) → IfSome cursor.interface (λ i. length xs < 256) → IsAfterOption (place_of cursor xs front) tail.now result front }
@@ -296,5 +243,55 @@ pub fn after_trailer(cursor: Cursor) -> Cursor
         left: 0,
         skip: 0,
         packet: None,
+    }
+}
+
+/// The packet that has these fixed fields; its captured bytes follow the first 28 bytes of `part`.
+pub fn view(packet: PacketHead, part: &[u8]) -> RecordView<'_>
+    requires whole { 28 ≤ length part.now }
+    requires time { IsRecordTime packet.arrival }
+    ensures { Views (Some (packet_with packet part.now)) (Some result) }
+{
+    RecordView {
+        arrival: packet.arrival,
+        orig_len: packet.orig_len,
+        bytes: &part[PACKET_HEAD..],
+    }
+}
+
+/// The refusal of a trailer, if the trailer is complete and differs from the total length.
+#[tactic(auto, unfolding(pcapng_blocks::specs::Blocks::trailer_refused))]
+pub fn trailer_refusal(order: Order, at: u64, total: u32, tail: &[u8]) -> Option<Refusal>
+    ensures { result ≡ refused_in_trailer order at total tail.now }
+{
+    if tail.len() >= 4 && u32_at(order, tail, 0) != total {
+        return Some(refused(Field::BlockTrailer, at));
+    }
+    None
+}
+
+/// What is missing of a block that is cut off at the end of the bytes, in a section with `count` interfaces. After the
+/// first section header, an empty `part` lacks nothing: a capture that ends there is whole.
+pub fn missing_of_block(
+    order: Option<Order>,
+    count: usize,
+    start: u64,
+    part: &[u8],
+) -> Option<Refusal>
+    requires { start < 2 ^ 63 }
+    ensures { (p : Place) → p.order ≡ order → length p.interfaces ≡ count → p.start ≡ start → p.stage ≡ stage.Block → result ≡ lacks_by false p part.now }
+{
+    if part.is_empty() && order.is_some() {
+        return None;
+    }
+    if part.len() < 4 {
+        return Some(cut_off(Field::BlockType, start));
+    }
+    if part.len() >= 8 {
+        return Some(cut_off(Field::BlockBody, start + 8));
+    }
+    match kind_at(order, part) {
+        Kind::Interface if count >= INTERFACE_LIMIT => Some(refused(Field::Interfaces, start)),
+        _ => Some(cut_off(Field::BlockLength, start + 4)),
     }
 }

@@ -1,6 +1,6 @@
 -- Only private functions and proofs use these definitions. What the state of a reader of captures in
 -- either layout means.
-use Rattle.std.specs.Prelude.{◌≡◌, ℕ, ◌+◌, ◌<◌, ◌≤◌, List, [], ◌++◌, length, take, Result, IfOk, IfErr, IfSome, OnOk, Option, None, Some, option_to_list}
+use Rattle.std.specs.Prelude.{◌≡◌, ℕ, ◌+◌, ◌<◌, ◌≤◌, ◌^◌, List, [], ◌++◌, length, take, Result, IfOk, IfErr, OnOk, Option, None, Some, option_to_list}
 use Rattle.avtp_base.specs.declared.refusal.Refusal.{Refusal}
 use Rattle.pcap_frames.specs.Capture.{Record}
 use Rattle.pcap_frames.specs.Readers as readers
@@ -9,7 +9,7 @@ use Rattle.pcap_frames.specs.Reading as classic
 use Rattle.pcapng_frames.specs.Reading as ng
 use Rattle.capture_io.specs.declared.capture_reader.Format.{Format}
 use Rattle.capture_io.specs.declared.capture_reader.Format.TheVariants.{Classic, Pcapng}
-use Rattle.capture_io.specs.Formats.{meaning, records_in, refusal_in}
+use Rattle.capture_io.specs.Formats.{meaning, meaning_of, records_in, refusal_in}
 use Rattle.capture_io.specs.Reader.{CaptureReading, progress_by, refusal_of, held, HasRead}
 
 abbrev pub nothing_read : CaptureReading
@@ -91,8 +91,12 @@ IsNextBy (Some Pcapng) r bytes = ng.IsNext r.ng bytes
 abbrev pub IsNext : CaptureReading → List ℕ → Type 0
 IsNext r bytes = IsNextBy r.format r bytes
 
--- The result is the size of the next record if the piece begins with that whole record, and `None` otherwise.
-pub record FindsNext (r : CaptureReading) (piece : List ℕ) (result : Option ℕ) : Type 0 where
-  pub within : IfSome result (λ size. size ≤ length piece)
-  pub next : IfSome result (λ size. IsNext r (take size piece))
-  pub none : result ≡ None → (size : ℕ) → IsNext r (take size piece) → ⊥
+-- `bytes` are the next record, and the reader can take them.
+pub record CanPass (r : CaptureReading) (bytes : List ℕ) : Type 0 where
+  pub next : IsNext r bytes
+  pub bounded : taken r + length bytes ≤ 2 ^ 62
+
+-- What feeding does to the reader of a layout that is known. The reader of the other layout is unchanged.
+pub record FeedsFormat (format : Format) (c c' : classic.Reading) (n n' : ng.Reading) (piece : List ℕ) (result : Result ℕ Refusal) : Type 0 where
+  pub fed : readers.Feeds (meaning_of format) (progress_by format c n) piece result (progress_by format c' n')
+  pub other : KeepsOther format c c' n n'

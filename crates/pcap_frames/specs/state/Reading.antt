@@ -75,3 +75,8 @@ pub record KeepsHeld {E : Type 0} (old : Reading) (olds : List Record) (result :
   pub read : OnOk result ((bytes : List ℕ) → HasRead old bytes olds → HasRead new bytes news)
   pub free : OnOk result (held new ≡ None)
   pub taken : reading.taken new ≡ reading.taken old
+
+-- A reader can take the bytes of a piece, and holds no record.
+pub record CanKeep (r : Reading) (piece : List ℕ) : Type 0 where
+  pub bounded : reading.taken r + length piece ≤ 2 ^ 62
+  pub free : held r ≡ None

@@ -1,46 +1,29 @@
 -- Only private functions and proofs use these definitions. The state of a reader.
-use Rattle.std.specs.Prelude.{◌≡◌, ℕ, ◌+◌, ◌-◌, ◌<◌, ◌≤◌, ◌^◌, ◌%◌, ⊤, Bool, true, false, is_some, IfSome, nat_lt, nat_eq, if◌then◌else◌, List, ◌++◌, length, drop, take, Option, Some, None, Result, IfOk}
+use Rattle.std.specs.Prelude.{◌≡◌, ℕ, ◌+◌, ◌-◌, ◌<◌, ◌≤◌, ◌^◌, ◌%◌, ⊤, Bool, true, false, is_some, IfSome, if◌then◌else◌, List, ◌++◌, length, drop, Option, Some, None, Result, IfOk}
+use Rattle.std.specs.Option.{option_to_list}
 use Rattle.avtp_base.specs.declared.refusal.Refusal.{Refusal}
 use Rattle.pcap_frames.specs.Capture.{Record}
 use Rattle.pcap_frames.specs.state.Readers.{Steps}
 use Rattle.pcap_frames.specs.declared.style.Order.{Order}
 use Rattle.pcap_frames.specs.Layout.{IsRecordTime, number_at}
-use Rattle.pcapng_frames.specs.declared.interface.Interface.{Interface}
-use Rattle.pcapng_frames.specs.declared.block.Kind.{Kind}
-use Rattle.pcapng_frames.specs.declared.block.Kind.TheVariants as kind
-use Rattle.pcapng_frames.specs.declared.block.Stage.{Stage}
-use Rattle.pcapng_frames.specs.declared.block.Stage.TheVariants as stage
-use Rattle.pcapng_frames.specs.declared.block.Cursor.{Cursor}
-use Rattle.pcapng_frames.specs.declared.block.PacketHead.{PacketHead}
-use Rattle.pcapng_frames.specs.Fields.{first_refused, kind_of, option_code, packet_rows}
-use Rattle.pcapng_frames.specs.Blocks.{after_block, after_trailer, block_size, cut_by, ends_at, kind_at, kind_rows, next_by, option_refused, order_at, order_or_little, refusal_here, size_by, Place}
-use Rattle.pcapng_frames.specs.Reading.{IsPacketBlock, Reading, progress, rest_of, passed_by, taken, taken_by}
-use Rattle.std.specs.Option.{option_to_list}
-use Rattle.pcapng_frames.specs.state.Blocks.{interfaces_after}
-use Rattle.pcapng_frames.specs.state.Fields.{IsResolved}
+use Rattle.pcapng_blocks.specs.declared.interface.Interface.{Interface}
+use Rattle.pcapng_blocks.specs.declared.block.Kind.{Kind}
+use Rattle.pcapng_blocks.specs.declared.block.Stage.{Stage}
+use Rattle.pcapng_blocks.specs.declared.block.Stage.TheVariants as stage
+use Rattle.pcapng_frames.specs.declared.cursor.Cursor.{Cursor}
+use Rattle.pcapng_frames.specs.declared.cursor.PacketHead.{PacketHead}
+use Rattle.pcapng_blocks.specs.Blocks.{after_block, after_trailer, block_size, cut_by, ends_at, next_by, option_refused, order_at, order_or_little, record_by, refusal_here, size_by, size_of_option, Place}
+use Rattle.pcapng_blocks.specs.Fields.{packet_arrival}
+use Rattle.pcapng_blocks.specs.Section.{IsResolved, interfaces_after}
+use Rattle.pcapng_blocks.specs.state.Needs.{block_need, option_need}
+use Rattle.pcapng_frames.specs.Reading.{Reading, progress, rest_of, passed_by, taken, taken_by}
 
 -- The reader took `bytes`: reading on from `old` with `bytes ++ more` gives the same contents as reading on from `new`
 -- with `more`.
 pub record Takes (old : Reading) (bytes : List ℕ) (new : Reading) : Type 0 where
   pub same : (more : List ℕ) → rest_of old (bytes ++ more) ≡ rest_of new more
 
--- How many bytes of a block must be taken before more is known of it. `head_need` applies once the type of the block is
--- known: the fixed fields are needed, and then the captured bytes of a packet.
-abbrev pub head_need : Kind → Order → List ℕ → ℕ
-head_need kind.Section order part = 16
-head_need kind.Interface order part = 16
-head_need kind.Packet order part = if nat_lt (length part) 28 then 28 else 28 + number_at order 20 4 part
-head_need kind.Other order part = 8
-
-unfoldable pub block_need : Option Order → List ℕ → ℕ
-block_need order part = if nat_lt (length part) 8 then 8 else head_need (kind_at order part) (order_or_little order) part
-
-abbrev pub value_need : ℕ → ℕ
-value_need code = if nat_eq code 9 then 8 else if nat_eq code 14 then 12 else 4
-
-unfoldable pub option_need : Order → List ℕ → ℕ
-option_need order part = if nat_lt (length part) 4 then 4 else value_need (option_code order part)
-
+-- how many bytes must be taken at a place before more is known of it
 abbrev pub need_by : Stage → Option Order → List ℕ → ℕ
 need_by stage.Block order part = block_need order part
 need_by stage.Option order part = option_need (order_or_little order) part
@@ -110,6 +93,16 @@ place_of c interfaces part = record {
   packet = packet_of c.packet part;
 }
 
+-- The bytes are the fixed fields and the captured bytes of a packet, and the section has the packet's interface.
+pub record HasPacket (order : Order) (interfaces : List Interface) (part : List ℕ) : Type 0 where
+  pub whole : length part ≡ 28 + number_at order 20 4 part
+  pub known : number_at order 8 4 part < length interfaces
+
+-- The fixed fields are those of the packet in `part`, if it has an arrival.
+pub record HeadsPacket (order : Order) (interfaces : List Interface) (part : List ℕ) (head : Option PacketHead) : Type 0 where
+  pub exact : packet_of head part ≡ record_by (packet_arrival order interfaces part) order part
+  pub time : IfSome head (λ h. IsRecordTime h.arrival)
+
 -- if there is a packet, its fixed fields are held, and the packet is in a section
 abbrev pub HasHead : Option Order → Option PacketHead → List ℕ → Type 0
 HasHead order None part = ⊤
@@ -141,28 +134,6 @@ pub record HasMoved (before : ℕ) (q : Place) (span : ℕ) (bytes : List ℕ) (
   pub unpacked : IsUnpacked c.stage c.packet
   pub passed : c.start + passed_by c.stage c.skip c.left c.total ≡ before + length bytes
 
--- the number of bytes that are read at the start of a block of this kind: its fixed fields, and the captured bytes of a
--- packet
-abbrev pub head_length : Kind → Order → List ℕ → ℕ
-head_length kind.Section order part = 16
-head_length kind.Interface order part = 16
-head_length kind.Packet order part = 28 + number_at order 20 4 part
-head_length kind.Other order part = 8
-
--- a packet's block is in a section
-abbrev pub IsOpened : Kind → Option Order → Type 0
-IsOpened kind.Section order = ⊤
-IsOpened kind.Interface order = ⊤
-IsOpened kind.Packet order = is_some order ≡ true
-IsOpened kind.Other order = ⊤
-
--- All bytes that are read at the start of a block of this kind were taken, and nothing in them is refused.
-pub record IsHead (k : Kind) (order : Option Order) (interfaces : List Interface) (start : ℕ) (part : List ℕ) : Type 0 where
-  pub long : 8 ≤ length part
-  pub whole : length part ≡ head_length k (order_or_little order) part
-  pub accepted : first_refused start (length part) (kind_rows k (order_at k order part) interfaces part) ≡ None
-  pub opened : IsOpened k order
-
 -- the cursor after `part` was taken at the start of a block of this kind, which begins at the place `p`
 abbrev pub IsAfterHead : Kind → Place → List ℕ → Cursor → Type 0
 IsAfterHead k p part c =
@@ -177,6 +148,13 @@ pub record IsOption (c : Cursor) (tail : List ℕ) : Type 0 where
   pub resolved : IsResolved c.interface
   pub ahead : IsAhead stage.Option 0 c.left c.total
   pub packet : c.packet ≡ None
+
+-- The size of the accepted option that `tail` begins with: its bytes are within the options, and the rest of the options
+-- is a multiple of 4.
+pub record IsOptionSize (order : Order) (left : ℕ) (tail : List ℕ) (size : ℕ) : Type 0 where
+  pub exact : size ≡ size_of_option order left tail
+  pub within : size ≤ left
+  pub four : (left - size) % 4 ≡ 0
 
 -- the cursor after `tail` was taken of the option at the place `p`
 abbrev pub IsAfterOption : Place → List ℕ → Cursor → List ℕ → Type 0
@@ -206,6 +184,11 @@ pub record IsAt (next : Stage) (r : Reading) (piece : List ℕ) : Type 0 where
   pub stage : r.place.stage ≡ next
   pub ready : r.skip ≡ 0
 
+-- The reader can take bytes of a piece, and skips them.
+pub record IsSkipping (r : Reading) (piece : List ℕ) : Type 0 where
+  pub going : IsGoing r piece
+  pub some : 0 < r.skip
+
 -- A reader took at least one byte of a piece, or refused a field in the piece.
 pub record TakesSome (old : Reading) (piece : List ℕ) (result : Result ℕ Refusal) (new : Reading) : Type 0 where
   pub some : IfOk result (λ n. 0 < n)
@@ -218,21 +201,6 @@ lacks_by false p part = if ends_at p.stage p.order p.start (length part) then No
 
 abbrev pub lacks : Reading → Option Refusal
 lacks r = lacks_by r.whole r.place r.part
-
--- The bytes begin with the whole block of a packet. Nothing in this block is refused.
-pub record BeginsPacket (order : Order) (interfaces : List Interface) (bytes : List ℕ) : Type 0 where
-  pub long : 28 ≤ length bytes
-  pub kind : kind_of (number_at order 0 4 bytes) ≡ kind.Packet
-  pub accepted : first_refused 0 (length bytes) (packet_rows order interfaces bytes) ≡ None
-  pub within : number_at order 4 4 bytes ≤ length bytes
-  pub trailer : number_at order 0 4 (drop (number_at order 4 4 bytes - 4) bytes) ≡ number_at order 4 4 bytes
-
--- The size of a packet's block that the bytes begin with, or `None` if they begin with no whole block of a packet, or if
--- something in the block is refused.
-pub record IsPacketSize (order : Order) (interfaces : List Interface) (bytes : List ℕ) (size : Option ℕ) : Type 0 where
-  pub within : IfSome size (λ n. n ≤ length bytes)
-  pub packet : IfSome size (λ n. IsPacketBlock order interfaces (take n bytes))
-  pub none : size ≡ None → (n : ℕ) → IsPacketBlock order interfaces (take n bytes) → ⊥
 
 -- The invariant of a reader with these fields, whose buffers have these capacities.
 pub record IsReader (cursor : Cursor) (interfaces : List Interface) (front tail : List ℕ) (whole : Bool) (refusal : Option Refusal) (front_capacity tail_capacity : ℕ) : Type 0 where

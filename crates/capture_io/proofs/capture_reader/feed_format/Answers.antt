@@ -1,7 +1,8 @@
+use Rattle.std.proofs.Common.{refl}
 use Rattle.capture_io.proofs.capture_reader.feed_format.Goals as goal
 
-pub returns-in-Classic-clause-fed : goal.returns-in-Classic-clause-fed
-returns-in-Classic-clause-fed c = rw c.in-Classic.is c.feed.ensures
+pub returns-in-Classic : goal.returns-in-Classic
+returns-in-Classic c = rw c.in-Classic.is (record { fed = c.feed.ensures; other = refl })
 
-pub returns-in-Pcapng-clause-fed : goal.returns-in-Pcapng-clause-fed
-returns-in-Pcapng-clause-fed c = rw c.in-Pcapng.is c.feed-in-Pcapng.ensures
+pub returns-in-Pcapng : goal.returns-in-Pcapng
+returns-in-Pcapng c = rw c.in-Pcapng.is (record { fed = c.feed-in-Pcapng.ensures; other = refl })

@@ -13,7 +13,7 @@ lend-requires-in-Pcapng c =
     ng_next _ _ _ _ _ (c.in-Some.is ∙ ap Some c.in-Pcapng.is) next
 
 pub returns-in-Classic : goal.returns-in-Classic
-returns-in-Classic c = rw (← c.self.view_is) (classic_lends _ _ _ _ _ _ (c.in-Some.is ∙ ap Some c.in-Classic.is) c.lend.ensures.exact c.lend.ensures.time)
+returns-in-Classic c = rw (← c.self.view_is) (classic_lends _ _ _ _ _ _ (c.in-Some.is ∙ ap Some c.in-Classic.is) c.lend.ensures)
 
 pub returns-in-Pcapng : goal.returns-in-Pcapng
-returns-in-Pcapng c = rw (← c.self.view_is) (ng_lends _ _ _ _ _ _ (c.in-Some.is ∙ ap Some c.in-Pcapng.is) c.lend-in-Pcapng.ensures.exact c.lend-in-Pcapng.ensures.time)
+returns-in-Pcapng c = rw (← c.self.view_is) (ng_lends _ _ _ _ _ _ (c.in-Some.is ∙ ap Some c.in-Pcapng.is) c.lend-in-Pcapng.ensures)

@@ -8,7 +8,7 @@ invariant_of-self c =
     let room = rw (← c.self.view_is) at c.requires.bounded in
     record { room = c.self.invariant.room; bounded = omega arith; reading = passed _ _ _ _ _ _ next }
 
-pub returns-clause-passed : goal.returns-clause-passed
-returns-clause-passed c =
+pub returns : goal.returns
+returns c =
     let next = rw (← c.self.view_is) at c.requires.next in
     rw (← c.self.view_is) (passes _ _ next)

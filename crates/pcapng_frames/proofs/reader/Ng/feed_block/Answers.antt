@@ -1,8 +1,8 @@
 use Rattle.std.proofs.Common.{arith, take, ◌∙◌, length, refl, ap}
-use Rattle.pcapng_frames.specs.state.Blocks.{interfaces_after}
+use Rattle.pcapng_blocks.specs.Section.{interfaces_after}
 use Rattle.pcapng_frames.specs.state.Reading.{place_of}
-use Rattle.pcapng_frames.proofs.Needs.{block_bound, block_came}
-use Rattle.pcapng_frames.proofs.Heads.{head_taken}
+use Rattle.pcapng_blocks.proofs.Needs.{block_bound, block_came}
+use Rattle.pcapng_blocks.proofs.Heads.{head_taken}
 use Rattle.pcapng_frames.proofs.Moves.{goes_on}
 use Rattle.pcapng_frames.proofs.Feeding.{is_reading, block_begun, part_block, head_none, block_takes, block_refuses, block_ends, inside_part, inside_size}
 use Rattle.pcapng_frames.proofs.reader.Ng.feed_block.Goals as goal

@@ -1,9 +1,9 @@
 use Rattle.std.proofs.Common.{arith, ◌∙◌, sym, refl, ap, length, take, List, ℕ, ◌++◌}
-use Rattle.pcapng_frames.specs.Blocks.{order_or_little}
+use Rattle.pcapng_blocks.specs.Blocks.{order_or_little}
 use Rattle.pcapng_frames.specs.state.Reading.{place_of}
-use Rattle.pcapng_frames.proofs.Needs.{option_came, option_bound}
-use Rattle.pcapng_frames.proofs.Options.{option_stops, option_moves, at_option_place}
-use Rattle.pcapng_frames.proofs.Moves.{goes_on}
+use Rattle.pcapng_blocks.proofs.Needs.{option_came, option_bound}
+use Rattle.pcapng_blocks.proofs.Options.{at_option_place}
+use Rattle.pcapng_frames.proofs.Moves.{option_stops, option_moves, goes_on}
 use Rattle.pcapng_frames.proofs.Feeding.{is_reading, option_begun, part_option, part_in_option, takes_more, refuses_more, ends_more, inside_part, inside_size, part_inside}
 use Rattle.pcapng_frames.proofs.reader.Ng.feed_option.Goals as goal
 

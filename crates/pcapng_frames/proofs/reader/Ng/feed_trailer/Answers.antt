@@ -1,8 +1,8 @@
 use Rattle.std.proofs.Common.{arith, ◌∙◌, sym, refl, ap, length, take, List, ℕ, ◌++◌, []}
 use Rattle.pcapng_frames.specs.Reading.{contents_past}
 use Rattle.pcapng_frames.specs.state.Reading.{place_of}
-use Rattle.pcapng_frames.proofs.Options.{trailer_stops, trailer_moves, at_trailer_place}
-use Rattle.pcapng_frames.proofs.Moves.{block_begins, goes_on}
+use Rattle.pcapng_blocks.proofs.Options.{at_trailer_place}
+use Rattle.pcapng_frames.proofs.Moves.{trailer_stops, trailer_moves, block_begins, goes_on}
 use Rattle.pcapng_frames.proofs.Feeding.{is_reading, trailer_begun, part_trailer, part_in_trailer, part_in_block, takes_more, refuses_more, ends_more, holds_more, trailer_ends, trailer_whole, head_none}
 use Rattle.pcapng_frames.proofs.reader.Ng.feed_trailer.Goals as goal
 

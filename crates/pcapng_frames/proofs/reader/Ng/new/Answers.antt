@@ -1,10 +1,7 @@
 use Rattle.std.proofs.Common.{refl, rules, None}
-use Rattle.pcapng_frames.specs.declared.block.Stage.TheVariants as stage
-use Rattle.pcapng_frames.proofs.Moves.{block_begins, read_nothing}
+use Rattle.pcapng_blocks.specs.declared.block.Stage.TheVariants as stage
+use Rattle.pcapng_frames.proofs.Moves.{block_begins}
 use Rattle.pcapng_frames.proofs.reader.Ng.new.Goals as goal
-
-pub returns-clause-read : goal.returns-clause-read
-returns-clause-read c = read_nothing _ (search rules)
 
 pub invariant_of-result : goal.invariant_of-result
 invariant_of-result c = record {

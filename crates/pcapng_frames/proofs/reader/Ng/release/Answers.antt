@@ -6,12 +6,12 @@ use Rattle.pcapng_frames.proofs.Feeding.{is_reading, is_whole, passed_whole, par
 use Rattle.pcapng_frames.proofs.reader.Ng.release.Goals as goal
 use Rattle.avtp_base.proofs.Results.{not_some}
 
-pub add_described-requires-clause-room : goal.add_described-requires-clause-room
-add_described-requires-clause-room c =
+pub add_described-requires : goal.add_described-requires
+add_described-requires c =
     let is = sym c.is_whole.ensures ∙ c.if-not-is_whole.false in
     let some = rw (← c.self.view_is) at is in
     let g = held_going _ _ _ some in
-    (is_whole _ _ _ _ _ g.0 g.1 c.self.invariant.reading).room
+    record { room = (is_whole _ _ _ _ _ g.0 g.1 c.self.invariant.reading).room; resolved = c.self.invariant.described }
 
 pub invariant_of-self : goal.invariant_of-self
 invariant_of-self c =
@@ -29,11 +29,13 @@ invariant_of-self c =
       reading = is_reading _ _ _ _ _ g.0 refl (rw (part_in_block c.after_trailer-self-inside.result.stage c.clear.new.self.items c.clear-2.new.self.items d.stage) (block_begins c.after_trailer-self-inside.result c.add_described.new.self c.clear.new.self.items c.clear.new.self.items d.stage d.skip d.interface d.packet c.clear.ensures.items));
     }
 
-pub returns-then-not-is_whole-clause-releases : goal.returns-then-not-is_whole-clause-releases
-returns-then-not-is_whole-clause-releases c = releases_none _ (not_some _ (sym c.is_whole.ensures ∙ c.if-not-is_whole.true))
+pub returns-then-not-is_whole : goal.returns-then-not-is_whole
+returns-then-not-is_whole c =
+    let is = sym c.is_whole.ensures ∙ c.if-not-is_whole.true in
+    record { answer = sym is; releases = releases_none _ (not_some _ is); still = λ none. refl }
 
-pub returns-clause-releases : goal.returns-clause-releases
-returns-clause-releases c =
+pub returns : goal.returns
+returns c =
     let is = sym c.is_whole.ensures ∙ c.if-not-is_whole.false in
     let some = rw (← c.self.view_is) at is in
     let g = held_going _ _ _ some in
@@ -41,8 +43,12 @@ returns-clause-releases c =
     let d = c.after_trailer-self-inside.ensures in
     let next = ap (λ x. place_of c.after_trailer-self-inside.result x c.clear.new.self.items) c.add_described.ensures ∙ d.place c.clear.new.self.items c.self.inside.part.items c.self.inside.interfaces in
     rw (← c.self.view_is) (record {
-      given_up = λ bytes records h. gives_up _ _ _ _ _ _ bytes _ _ _ records g.0 g.1 refl next d.skip (part_in_block c.after_trailer-self-inside.result.stage c.clear.new.self.items c.clear-2.new.self.items d.stage ∙ c.clear.ensures.items) h;
-      free = held_free c.self.inside.refusal _;
-      counted = rw d.stage (omega (arith, passed_whole _ c.self.inside.cursor.skip c.self.inside.cursor.left c.self.inside.cursor.total w.at_trailer, w.trailer, w.passed, w.total, d.start, ap length c.clear.ensures.items));
-      refusal = refl;
+      answer = sym some;
+      releases = record {
+        given_up = λ bytes records h. gives_up _ _ _ _ _ _ bytes _ _ _ records g.0 g.1 refl next d.skip (part_in_block c.after_trailer-self-inside.result.stage c.clear.new.self.items c.clear-2.new.self.items d.stage ∙ c.clear.ensures.items) h;
+        free = held_free c.self.inside.refusal _;
+        counted = rw d.stage (omega (arith, passed_whole _ c.self.inside.cursor.skip c.self.inside.cursor.left c.self.inside.cursor.total w.at_trailer, w.trailer, w.passed, w.total, d.start, ap length c.clear.ensures.items));
+        refusal = refl;
+      };
+      still = λ none. absurd cc;
     })

@@ -1,0 +1,9 @@
+pub mod Choices
+pub mod Numbers
+pub mod Stay
+pub mod Places
+pub mod Heads
+pub mod Blocks
+pub mod Options
+pub mod Needs
+pub mod Packets
