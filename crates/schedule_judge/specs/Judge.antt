@@ -1,5 +1,5 @@
 -- A judge, which takes a stream of entries one at a time and shows items as soon as they are certain.
-use Rattle.std.specs.Prelude.{◌≡◌, ℕ, ◌+◌, ◌*◌, ◌≤◌, Bool, true, false, if◌then◌else◌, ℤ, ◌<ℤ◌, List, [], ◌∷◌, ◌++◌, length, take, drop, map, Option, None, Some}
+use Rattle.std.specs.Prelude.{◌≡◌, ℕ, ◌+◌, ◌*◌, ◌^◌, ◌<◌, ◌≤◌, Bool, true, false, if◌then◌else◌, ℤ, ◌<ℤ◌, List, [], ◌∷◌, ◌++◌, length, take, drop, map, Option, None, Some, IfNone, slice_get}
 use Rattle.std.specs.List.{AllByRecursion}
 use Rattle.std.specs.Option.{option_to_list}
 use Rattle.sample_schedule.specs.declared.accepted.Accepted.{Accepted}
@@ -101,9 +101,32 @@ pub record Begins (asked : SchedulePlan) (judge : JudgeState) : Type 0 where
   pub «open» : judge.closed ≡ false
   pub idle : IsIdle judge
 
+-- The judge can take one more entry: the list of entries has not ended, all due items of the entries so far were
+-- returned, and the judge has taken fewer than 2^62 entries.
+pub record IsReady (judge : JudgeState) : Type 0 where
+  pub «open» : judge.closed ≡ false
+  pub idle : IsIdle judge
+  pub few : taken judge < 2 ^ 62
+
 -- the judge has taken one more entry
 pub record Takes (entry : Entry) (old new : JudgeState) : Type 0 where
   pub stands : (clock : Clock) (entries : List Entry) (given : ℕ) → StandsFor clock entries given old → StandsFor clock (entries ++ entry ∷ []) given new
   pub plan : new.plan ≡ old.plan
   pub taken : taken new ≡ taken old + 1
   pub «open» : new.closed ≡ false
+
+-- The judge has returned `result`: the next of the items that it shows for its entries, or `None` if no item is left to
+-- return. If the list has ended, no batch waits after `None`. Each item that is returned leaves fewer steps.
+pub record GivesNext (old : JudgeState) (result : Option Shown) (new : JudgeState) : Type 0 where
+  pub given : (clock : Clock) (entries : List Entry) (given : ℕ) → StandsFor clock entries given old → result ≡ slice_get (out clock old entries) given
+  pub stands : (clock : Clock) (entries : List Entry) (given : ℕ) → StandsFor clock entries given old
+      → StandsFor clock entries (given + length (option_to_list result)) new
+  pub idle : IfNone result (IsIdle new)
+  pub empty : IfNone result (old.closed ≡ true → new.waiting ≡ [])
+  pub keeps : Keeps old new
+  pub less : work new + length (option_to_list result) ≤ work old
+
+-- The list of entries has ended, and the judge stands for the same entries as before. Nothing else is changed.
+pub record Closes (old new : JudgeState) : Type 0 where
+  pub stands : (clock : Clock) (entries : List Entry) (given : ℕ) → StandsFor clock entries given old → StandsFor clock entries given new
+  pub same : new ≡ record old { closed = true }

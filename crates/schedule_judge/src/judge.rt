@@ -1,18 +1,18 @@
 //! The schedule of a stream, from one entry at a time.
 
-ghost use Rattle.std.specs.Prelude.{◌≡◌, ◌+◌, ◌*◌, ◌^◌, ◌<◌, ◌≤◌, ◌<ℤ◌, ◌++◌, ◌∷◌, [], ℕ, true, false, List, length, slice_get, Option, Some, None, IfNone, IfOk, IfSome};
-ghost use Rattle.std.specs.Option.{option_to_list};
+ghost use Rattle.std.specs.Prelude.{◌≡◌, ℕ, [], true, false, List, length, Some, IfOk};
 ghost use Rattle.sample_schedule.specs.declared.entry.Entry.{Entry as EntryValue};
 ghost use Rattle.sample_schedule.specs.declared.entry.Entry.TheVariants.{Item as OfItem, Clock as OfClock};
 ghost use Rattle.clock_track.specs.Limits.{IsNotable};
 ghost use Rattle.clock_track.specs.Views.{row_of};
 ghost use Rattle.time_unfold.specs.Time.{IsArrival};
-ghost use Rattle.schedule_judge.specs.Judge.{Begins, IsIdle, Keeps, StandsFor, Takes, out, taken, work};
-ghost use Rattle.schedule_judge.specs.state.Judge.{CanTake, Puts, Works, now_with};
+ghost use Rattle.schedule_judge.specs.Judge.{Begins, Closes, GivesNext, IsIdle, IsReady, StandsFor, Takes};
+ghost use Rattle.schedule_judge.specs.state.Judge.{CanTake, Puts, TakesAhead, Works, now_with};
+ghost use Rattle.sample_schedule.specs.Laws.{IsBounded};
 ghost use Rattle.sample_schedule.specs.Limits.{IsItem, IsPlan};
 ghost use Rattle.schedule_judge.specs.state.Order.{starts_due};
 ghost use Rattle.sample_schedule.specs.Schedule.{waiting};
-ghost use Rattle.sample_schedule.specs.Verdicts.{Clock, total_bytes};
+ghost use Rattle.sample_schedule.specs.Verdicts.{Clock};
 
 use crate::pending::Pending;
 use crate::verdicts::verdict;
@@ -91,9 +91,7 @@ impl Judge {
         ensures { self.new ≡ record self.old { time = now_with self.old.time (Some next); current = Some next } }
     {
         self.time = self.time.max(next.arrival());
-        let None = self.current.replace(next) else {
-            unreachable!()
-        };
+        self.current = Some(next);
     }
 
     /// Puts an entry into the delay line. If the delay line then has more entries than the look-ahead, its first entry
@@ -125,9 +123,7 @@ impl Judge {
     /// must not be closed. A judge must take at most 2^62 entries. Allocates nothing.
     #[inline(always)]
     pub fn step(&mut self, item: Item)
-        requires open { self.old.closed ≡ false }
-        requires idle { IsIdle self.old }
-        requires taken { taken self.old < 2 ^ 62 }
+        requires ready { IsReady self.old }
         requires item { IsItem item }
         ensures { Takes (OfItem item) self.old self.new }
     {
@@ -139,9 +135,7 @@ impl Judge {
     /// shown. The preconditions are those of `step`. If the plan has no clock, only the arrival counts. Allocates
     /// nothing.
     pub fn step_clock(&mut self, arrival: i64, points: &Points<'_>)
-        requires open { self.old.closed ≡ false }
-        requires idle { IsIdle self.old }
-        requires taken { taken self.old < 2 ^ 62 }
+        requires ready { IsReady self.old }
         requires arrival { IsArrival arrival }
         requires points { IsNotable (row_of points.now) }
         ensures { Takes (OfClock arrival (row_of points.now)) self.old self.new }
@@ -154,8 +148,7 @@ impl Judge {
     #[inline(always)]
     fn judge(&mut self) -> Option<Shown>
         requires { starts_due self.old.time self.old.waiting ≡ false }
-        ensures works { Works self.old result self.new }
-        ensures idle { IsIdle self.new }
+        ensures { Works self.old result self.new }
     {
         let Some(pending) = self.current.take() else {
             return None;
@@ -189,8 +182,7 @@ impl Judge {
     /// entry's flag, if the entry has one.
     #[inline(always)]
     fn give_or_judge(&mut self) -> Option<Shown>
-        ensures works { Works self.old result self.new }
-        ensures idle { IfNone result (IsIdle self.new) }
+        ensures { Works self.old result self.new }
     {
         if self.current.is_none() {
             return None;
@@ -206,9 +198,7 @@ impl Judge {
     #[inline(always)]
     fn take_ahead(&mut self) -> bool
         requires { IsIdle self.old }
-        ensures works { Works self.old None self.new }
-        ensures none { result ≡ false → (self.new ≡ self.old) × (self.old.closed ≡ true → self.old.ahead ≡ []) }
-        ensures shorter { result ≡ true → length self.new.ahead < length self.old.ahead }
+        ensures { TakesAhead self.old result self.new }
     {
         if !self.closed {
             return false;
@@ -227,10 +217,7 @@ impl Judge {
     fn give_last(&mut self) -> Option<Shown>
         requires idle { IsIdle self.old }
         requires over { self.old.closed ≡ true → self.old.ahead ≡ [] }
-        ensures given { (clock : Clock) (entries : List EntryValue) (given : ℕ) → StandsFor clock entries given self.old → result ≡ slice_get (out clock self.old entries) given }
-        ensures works { Works self.old result self.new }
-        ensures idle { IsIdle self.new }
-        ensures empty { IfNone result (self.old.closed ≡ true → self.new.waiting ≡ []) }
+        ensures { GivesNext self.old result self.new }
     {
         if !self.closed {
             return None;
@@ -243,12 +230,7 @@ impl Judge {
     /// returned; after `close`, all items. The result is `None` if and only if no item is left to return. Allocates
     /// nothing.
     pub fn next_out(&mut self) -> Option<Shown>
-        ensures given { (clock : Clock) (entries : List EntryValue) (given : ℕ) → StandsFor clock entries given self.old → result ≡ slice_get (out clock self.old entries) given }
-        ensures stands { (clock : Clock) (entries : List EntryValue) (given : ℕ) → StandsFor clock entries given self.old → StandsFor clock entries (given + length (option_to_list result)) self.new }
-        ensures idle { IfNone result (IsIdle self.new) }
-        ensures empty { IfNone result (self.old.closed ≡ true → self.new.waiting ≡ []) }
-        ensures keeps { Keeps self.old self.new }
-        ensures less { work self.new + length (option_to_list result) ≤ work self.old }
+        ensures { GivesNext self.old result self.new }
     {
         loop {
             if let Some(shown) = self.give_or_judge() {
@@ -264,8 +246,7 @@ impl Judge {
     pub fn close(&mut self)
         requires open { self.old.closed ≡ false }
         requires idle { IsIdle self.old }
-        ensures stands { (clock : Clock) (entries : List EntryValue) (given : ℕ) → StandsFor clock entries given self.old → StandsFor clock entries given self.new }
-        ensures same { self.new ≡ record self.old { closed = true } }
+        ensures { Closes self.old self.new }
     {
         self.closed = true;
     }
@@ -275,8 +256,7 @@ impl Judge {
     /// batch waits once `next_out` has returned `None`.
     pub fn held(&self) -> u32
         ensures held { result ≡ length self.now.waiting }
-        ensures batches { result ≤ self.now.plan.buffer }
-        ensures bytes { total_bytes self.now.waiting ≤ self.now.plan.room }
+        ensures bounded { IsBounded self.now.plan self.now.waiting }
         ensures accepted { (clock : Clock) (entries : List EntryValue) (given : ℕ) → StandsFor clock entries given self.now → self.now.closed ≡ false → IsIdle self.now → self.now.waiting ≡ waiting clock self.now.plan entries }
     {
         self.waiting.len() as u32

@@ -1,8 +1,7 @@
 //! Accepted batches that wait for their instants.
 
-ghost use Rattle.std.specs.Prelude.{◌≡◌, ◌+◌, ◌^◌, ◌<◌, ◌≤◌, ◌<ℤ◌, [], false, length, IfNone, IfOk, IfSome};
+ghost use Rattle.std.specs.Prelude.{◌≡◌, ◌+◌, ◌^◌, ◌<◌, false, length, IfOk};
 ghost use Rattle.std.specs.List.{list_any};
-ghost use Rattle.sample_schedule.specs.Order.{put_behind as put_behind_of};
 ghost use Rattle.schedule_judge.specs.state.Order.{starts_due};
 ghost use Rattle.sample_schedule.specs.Verdicts.{is_copy as is_copy_of, is_full as is_full_of, total_bytes};
 
@@ -51,12 +50,11 @@ impl Model for Waiting {
 }
 
 impl Waiting {
-    ghost use Rattle.schedule_judge.specs.state.Waiting.{Hands, HasPlace};
+    ghost use Rattle.schedule_judge.specs.state.Waiting.{HandsDue, HandsFirst, HasPlace, IsEmptyRoom, PutsBehind};
 
     /// An empty waiting room. Reserves the memory for this many batches.
     pub fn with_room(alloc: Global, batches: u32) -> Result<Self, NoMemory>
-        ensures none { IfOk result (λ waiting. waiting.list ≡ []) }
-        ensures room { IfOk result (λ waiting. batches ≤ waiting.room) }
+        ensures { IfOk result (IsEmptyRoom batches) }
     {
         let keys = SortedKeys::with_room(alloc, batches)?;
         let batches = Slab::with_capacity(alloc, batches as usize)?;
@@ -104,8 +102,7 @@ impl Waiting {
     pub fn put_behind(&mut self, accepted: Accepted)
         requires room { length self.old.list < self.old.room }
         requires bytes { total_bytes self.old.list + length accepted.batch.bytes < 2 ^ 64 }
-        ensures list { self.new.list ≡ put_behind_of self.old.list accepted }
-        ensures room { self.old.room ≤ self.new.room }
+        ensures { PutsBehind self.old accepted self.new }
     {
         let instant = accepted.instant;
         let seq = sequence_number(&accepted);
@@ -128,8 +125,7 @@ impl Waiting {
     /// Removes and returns the first batch.
     #[inline(always)]
     pub fn take_first(&mut self) -> Option<Accepted>
-        ensures hands { Hands self.old result self.new }
-        ensures none { IfNone result (self.old.list ≡ []) }
+        ensures { HandsFirst self.old result self.new }
     {
         let Some(key) = self.keys.take_first() else {
             return None;
@@ -142,9 +138,7 @@ impl Waiting {
     /// If the instant of the first batch is before `now`, removes and returns the batch.
     #[inline(always)]
     pub fn take_due(&mut self, now: i64) -> Option<Accepted>
-        ensures hands { Hands self.old result self.new }
-        ensures due { IfSome result (λ first. first.instant <ℤ now) }
-        ensures none { IfNone result (starts_due now self.new.list ≡ false) }
+        ensures { HandsDue now self.old result self.new }
     {
         if self.is_due(now) {
             self.take_first()

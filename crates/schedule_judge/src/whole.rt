@@ -1,7 +1,7 @@
 //! The schedule of a list.
 
-ghost use Rattle.std.specs.Prelude.{◌≡◌, ◌+◌, ◌^◌, ◌<◌, ◌++◌, ◌∷◌, [], ℕ, false, List, All, IfOk, OnOk};
-ghost use Rattle.schedule_judge.specs.Judge.{IsIdle, Takes, taken};
+ghost use Rattle.std.specs.Prelude.{◌≡◌, All, IfOk, OnOk};
+ghost use Rattle.schedule_judge.specs.Judge.{IsReady, Takes};
 ghost use Rattle.schedule_judge.specs.state.Judge.{GivesAll};
 ghost use Rattle.sample_schedule.specs.Limits.{IsEntry, IsPlan};
 ghost use Rattle.sample_schedule.specs.Schedule.{shown};
@@ -15,9 +15,7 @@ use std::collections::VecDeque;
 
 /// Gives an entry to the judge.
 pub fn take_entry(judge: &mut Judge, entry: Entry)
-    requires open { judge.old.closed ≡ false }
-    requires idle { IsIdle judge.old }
-    requires taken { taken judge.old < 2 ^ 62 }
+    requires ready { IsReady judge.old }
     requires entry { IsEntry entry }
     ensures { Takes entry judge.old judge.new }
 {

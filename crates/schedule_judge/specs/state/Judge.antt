@@ -1,6 +1,6 @@
 -- Only private functions and proofs use these definitions. A judge, which takes a stream of entries
 -- one at a time and shows items as soon as they are certain.
-use Rattle.std.specs.Prelude.{◌≡◌, ℕ, ◌+◌, ◌^◌, ◌≤◌, ℤ, ◌<◌, List, [], ◌∷◌, ◌++◌, All, length, Option, None, Some, IfSome, slice_get}
+use Rattle.std.specs.Prelude.{◌≡◌, ℕ, ◌+◌, ◌^◌, ◌≤◌, Bool, true, false, ℤ, ◌<◌, List, [], ◌∷◌, ◌++◌, All, length, Option, None, Some, IfNone, IfSome, slice_get}
 use mathlib.Core.List.{IsPrefix}
 use Rattle.std.specs.Int.{int_max}
 use Rattle.std.specs.Option.{option_to_list}
@@ -48,13 +48,23 @@ pub record CanTake (next : Pending) (judge : JudgeState) : Type 0 where
   pub pending : IsPending next
 
 -- The judge has returned `result`: the next item that it shows, or `None`. The judge stands for the same entries as
--- before. If an item was returned, fewer steps are left. The delay line has not grown.
+-- before. If an item was returned, fewer steps are left; if not, there is no current entry. The delay line has not grown.
 pub record Works (old : JudgeState) (result : Option Shown) (new : JudgeState) : Type 0 where
   pub next : (clock : Clock) (entries : List Entry) (given : ℕ) → StandsFor clock entries given old → IfSome result (λ shown. slice_get (out clock old entries) given ≡ Some shown)
   pub stands : (clock : Clock) (entries : List Entry) (given : ℕ) → StandsFor clock entries given old → StandsFor clock entries (given + length (option_to_list result)) new
   pub keeps : Keeps old new
   pub less : work new + length (option_to_list result) ≤ work old
   pub ahead : length new.ahead ≤ length old.ahead
+  pub idle : IfNone result (IsIdle new)
+
+-- If the list has ended and the delay line has an entry, the line's first entry is now the current one, and `taken` is
+-- true. Otherwise nothing is changed.
+pub record TakesAhead (old : JudgeState) (taken : Bool) (new : JudgeState) : Type 0 where
+  pub stands : (clock : Clock) (entries : List Entry) (given : ℕ) → StandsFor clock entries given old → StandsFor clock entries given new
+  pub keeps : Keeps old new
+  pub less : work new ≤ work old
+  pub none : taken ≡ false → (new ≡ old) × (old.closed ≡ true → old.ahead ≡ [])
+  pub shorter : taken ≡ true → length new.ahead < length old.ahead
 
 -- The judge has returned all items that it shows for its entries so far, and these items were put at the end of a list.
 pub record GivesAll (before : List Shown) (old : JudgeState) (after : List Shown) (new : JudgeState) : Type 0 where

@@ -1,13 +1,15 @@
 -- Only private functions and proofs use these definitions. The batches that wait for their instant,
 -- and their keys.
-use Rattle.std.specs.Prelude.{◌≡◌, ◌≢◌, ◌+◌, ◌<◌, ◌≤◌, ◌≤ℤ◌, ⊤, ℕ, ℤ, List, [], ◌∷◌, ◌++◌, length, Option, Some}
+use Rattle.std.specs.Prelude.{◌≡◌, ◌≢◌, ◌+◌, ◌<◌, ◌≤◌, ◌≤ℤ◌, ◌<ℤ◌, ⊤, ℕ, ℤ, false, List, [], ◌∷◌, ◌++◌, length, Option, Some, IfNone, IfSome}
 use Rattle.std.specs.List.{AllByRecursion, filter_map}
 use Rattle.std.specs.Option.{option_to_list}
 use Rattle.slab.specs.Slab.{Slab, get, slab_len}
 use Rattle.sample_schedule.specs.declared.accepted.Accepted.{Accepted}
 use Rattle.sample_schedule.specs.declared.plan.SchedulePlan.{SchedulePlan}
 use Rattle.sorted_keys.specs.declared.key.Key.{Key}
+use Rattle.sample_schedule.specs.Order.{put_behind}
 use Rattle.sample_schedule.specs.Verdicts.{total_bytes}
+use Rattle.schedule_judge.specs.state.Order.{starts_due}
 use Rattle.schedule_judge.specs.Waiting.{Held}
 
 abbrev pub batch_of : Slab Accepted → Key → Option Accepted
@@ -51,3 +53,24 @@ pub record CanWait (plan : SchedulePlan) (now : ℤ) (waiting : List Accepted) (
 pub record Hands (old : Held) (first : Option Accepted) (new : Held) : Type 0 where
   pub list : old.list ≡ option_to_list first ++ new.list
   pub room : new.room ≡ old.room
+
+-- the first waiting batch was taken; `None` if no batch waits
+pub record HandsFirst (old : Held) (first : Option Accepted) (new : Held) : Type 0 where
+  pub hands : Hands old first new
+  pub none : IfNone first (old.list ≡ [])
+
+-- the first waiting batch was taken if its instant is before `now`
+pub record HandsDue (now : ℤ) (old : Held) (first : Option Accepted) (new : Held) : Type 0 where
+  pub hands : Hands old first new
+  pub due : IfSome first (λ a. a.instant <ℤ now)
+  pub none : IfNone first (starts_due now new.list ≡ false)
+
+-- no batch waits, and memory is reserved for at least this many batches
+pub record IsEmptyRoom (batches : ℕ) (new : Held) : Type 0 where
+  pub none : new.list ≡ []
+  pub room : batches ≤ new.room
+
+-- the accepted batch waits, after all batches with earlier or equal first instants
+pub record PutsBehind (old : Held) (accepted : Accepted) (new : Held) : Type 0 where
+  pub list : new.list ≡ put_behind old.list accepted
+  pub room : old.room ≤ new.room

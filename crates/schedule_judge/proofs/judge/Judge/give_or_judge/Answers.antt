@@ -4,8 +4,8 @@ use Rattle.schedule_judge.specs.Judge.{JudgeState}
 use Rattle.schedule_judge.proofs.JudgeLemmas.{due-given, some-current}
 use Rattle.schedule_judge.proofs.judge.Judge.give_or_judge.Goals as goal
 
-pub returns-in-Some-clause-works : goal.returns-in-Some-clause-works
-returns-in-Some-clause-works c =
+pub returns-in-Some : goal.returns-in-Some
+returns-in-Some c =
     let now : to_z w64 (of_z w64 c.self.inside.time) ≡ c.self.inside.time = omega (arith, ints) in
     let early = subst (λ (s : JudgeState). c.in-Some.first.instant <ℤ s.time) c.self.view_is (rw now at c.in-Some.ensures.due) in
     let some = some-current _ _ c.self.view_is (sym c.if-is_none.ensures) in
@@ -17,4 +17,5 @@ returns-in-Some-clause-works c =
       keeps = search rules;
       less = search rules;
       ahead = search rules;
+      idle = tt;
     }

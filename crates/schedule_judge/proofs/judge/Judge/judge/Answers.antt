@@ -12,8 +12,8 @@ pub invariant_of-self-in-Ok : goal.invariant_of-self-in-Ok
 invariant_of-self-in-Ok c =
     rw c.take.ensures.after (sound-accept _ c.self.inside.ahead.capacity c.self.inside.waiting c.put_behind.new.self c.put_behind.new.self.list c.in-Some.pending c.in-Ok.accepted c.self.invariant (sym c.in-Some.ensures.value) c.put_behind.ensures.room c.in-Ok.ensures.waits.place.buffer c.in-Ok.ensures.waits.place.fits c.put_behind.ensures.list)
 
-pub returns-in-Clock-clause-works : goal.returns-in-Clock-clause-works
-returns-in-Clock-clause-works c = record {
+pub returns-in-Clock : goal.returns-in-Clock
+returns-in-Clock c = record {
   next = λ clock entries given st. tt;
   stands = λ clock entries given st.
       let here = subst (λ (s : JudgeState). StandsFor clock entries given s) (sym c.self.view_is) st in
@@ -22,10 +22,11 @@ returns-in-Clock-clause-works c = record {
   keeps = search rules;
   less = search rules;
   ahead = search rules;
+  idle = search rules;
 }
 
-pub returns-in-Ok-clause-works : goal.returns-in-Ok-clause-works
-returns-in-Ok-clause-works c = record {
+pub returns-in-Ok : goal.returns-in-Ok
+returns-in-Ok c = record {
   next = λ clock entries given st. tt;
   stands = λ clock entries given st.
       let here = subst (λ (s : JudgeState). StandsFor clock entries given s) (sym c.self.view_is) st in
@@ -39,10 +40,11 @@ returns-in-Ok-clause-works c = record {
   keeps = search rules;
   less = less-accepted _ _ c.in-Some.pending c.in-Ok.accepted _ _ c.self.view_is (sym c.in-Some.ensures.value) c.put_behind.ensures.list c.take.ensures.after;
   ahead = search rules;
+  idle = search rules;
 }
 
-pub returns-in-Err-clause-works : goal.returns-in-Err-clause-works
-returns-in-Err-clause-works c = record {
+pub returns-in-Err : goal.returns-in-Err
+returns-in-Err c = record {
   next = λ clock entries given st.
       let here = subst (λ (s : JudgeState). StandsFor clock entries given s) (sym c.self.view_is) st in
       let undue = subst (λ (s : JudgeState). starts_due s.time s.waiting ≡ false) (sym c.self.view_is) c.requires in
@@ -63,4 +65,5 @@ returns-in-Err-clause-works c = record {
   keeps = search rules;
   less = search rules;
   ahead = search rules;
+  idle = search rules;
 }

@@ -7,7 +7,7 @@ use Rattle.schedule_judge.proofs.JudgeSound.{next-is, sound-next}
 use Rattle.schedule_judge.proofs.judge.Judge.judge_next.Goals as goal
 
 pub invariant_of-self : goal.invariant_of-self
-invariant_of-self c = rw c.replace.ensures.after (sound-next _ _ c.self.inside.waiting c.args.next _ c.self.invariant (ap (λ (s : JudgeState). s.current) c.self.view_is ∙ c.requires.idle) (subst (λ (s : JudgeState). taken s < 2 ^ 62) (sym c.self.view_is) c.requires.taken) c.requires.pending)
+invariant_of-self c = (sound-next _ _ c.self.inside.waiting c.args.next _ c.self.invariant (ap (λ (s : JudgeState). s.current) c.self.view_is ∙ c.requires.idle) (subst (λ (s : JudgeState). taken s < 2 ^ 62) (sym c.self.view_is) c.requires.taken) c.requires.pending)
 
 pub returns : goal.returns
 returns c =
@@ -16,4 +16,4 @@ returns c =
     let again : to_z w64 (of_z w64 c.max-self-inside.result) ≡ c.max-self-inside.result = omega (arith, ints) in
     let is : to_z w64 (of_z w64 c.max-self-inside.result) ≡ int_max c.self.inside.time (pending_arrival c.args.next) =
     again ∙ c.max-self-inside.ensures.value ∙ ap (λ (z : ℤ). int_max z (to_z w64 (of_z w64 c.arrival.result))) before ∙ ap (λ (z : ℤ). int_max c.self.inside.time z) arrival in
-    rw c.replace.ensures.after (next-is _ _ _ c.args.next c.self.view_is is)
+    next-is _ _ _ c.args.next c.self.view_is is

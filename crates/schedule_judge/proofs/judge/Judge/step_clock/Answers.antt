@@ -12,9 +12,9 @@ returns c = record {
   stands = λ clock entries given st.
       let here = subst (λ (s : JudgeState). StandsFor clock entries given s) (sym c.self.view_is) st in
       let arrival : to_z w64 (of_z w64 c.args.arrival) ≡ c.args.arrival = omega (arith, ints) in
-      takes clock entries given (OfClock c.args.arrival (row_of c.args.points.now)) _ _ _ here (ap (λ (s : JudgeState). s.closed) c.self.view_is ∙ c.requires.open) (ap (λ (s : JudgeState). s.current) c.self.view_is ∙ c.requires.idle)
+      takes clock entries given (OfClock c.args.arrival (row_of c.args.points.now)) _ _ _ here (ap (λ (s : JudgeState). s.closed) c.self.view_is ∙ c.requires.ready.open) (ap (λ (s : JudgeState). s.current) c.self.view_is ∙ c.requires.ready.idle)
       (c.note_points.ensures _ entries c.args.arrival here.noted) (rw arrival at c.put.ensures);
   plan = search rules;
-  taken = taken-put _ _ _ (ap (λ (s : JudgeState). s.current) c.self.view_is ∙ c.requires.idle) c.put.ensures ∙ ap (λ (s : JudgeState). taken s + 1) c.self.view_is;
+  taken = taken-put _ _ _ (ap (λ (s : JudgeState). s.current) c.self.view_is ∙ c.requires.ready.idle) c.put.ensures ∙ ap (λ (s : JudgeState). taken s + 1) c.self.view_is;
   «open» = search rules;
 }

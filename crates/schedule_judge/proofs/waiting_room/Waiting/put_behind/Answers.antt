@@ -40,7 +40,10 @@ invariant_of-self c =
     subst (λ (n : ℕ). IsWaiting c.put.new.self.list c.insert_reserved-slot.new.self (c.self.inside.bytes + n)) (sym c.size.ensures)
     (put-waiting c.self.inside.batches c.insert_reserved-slot.new.self c.self.inside.keys.list c.put.new.self.list (key c) c.args.accepted c.self.inside.bytes (put c) c.insert_reserved-slot.ensures.len c.self.invariant)
 
-pub returns-clause-list : goal.returns-clause-list
-returns-clause-list c =
-    put-list c.self.inside.batches c.insert_reserved-slot.new.self c.self.inside.keys.list c.put.new.self.list (key c) c.args.accepted (put c) c.self.invariant.there
-    ∙ ap (λ (h : Held). put_behind h.list c.args.accepted) c.self.view_is
+pub returns : goal.returns
+returns c = record {
+  list =
+      put-list c.self.inside.batches c.insert_reserved-slot.new.self c.self.inside.keys.list c.put.new.self.list (key c) c.args.accepted (put c) c.self.invariant.there
+      ∙ ap (λ (h : Held). put_behind h.list c.args.accepted) c.self.view_is;
+  room = search rules;
+}
