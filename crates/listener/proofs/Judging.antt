@@ -7,7 +7,7 @@ use Rattle.sample_schedule.specs.declared.entry.Entry.{Entry}
 use Rattle.sample_schedule.specs.declared.entry.Entry.TheVariants.{Item as OfItem, Clock as OfClock}
 use Rattle.sample_schedule.specs.declared.item.Item.{Item}
 use Rattle.sample_schedule.specs.declared.shown.Shown.{Shown}
-use Rattle.sample_schedule.specs.Judge.{JudgeState, StandsFor as JudgeStandsFor, out as judge_out}
+use Rattle.schedule_judge.specs.Judge.{JudgeState, StandsFor as JudgeStandsFor, out as judge_out}
 use Rattle.sample_schedule.specs.Schedule.{due, shown}
 use Rattle.sample_schedule.proofs.Growing.{due-grows}
 use Rattle.packet_journal.specs.Deliveries.{Delivery}

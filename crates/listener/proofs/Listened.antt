@@ -14,8 +14,8 @@ use Rattle.sample_schedule.specs.declared.plan.SchedulePlan.{SchedulePlan}
 use Rattle.sample_schedule.specs.declared.shown.Shown.{Shown}
 use Rattle.sample_schedule.specs.declared.shown.Shown.TheVariants.{Present, Flag}
 use Rattle.sample_schedule.specs.declared.item.Item.{Item}
-use Rattle.sample_schedule.specs.Judge.{JudgeState, StandsFor as JudgeStandsFor, taken}
-use Rattle.sample_schedule.proofs.JudgeLemmas.{all-taken, nothing-due}
+use Rattle.schedule_judge.specs.Judge.{JudgeState, StandsFor as JudgeStandsFor, taken}
+use Rattle.schedule_judge.proofs.JudgeLemmas.{all-taken, nothing-due}
 use Rattle.packet_journal.specs.Deliveries.{Delivery, deliveries, delivery, is_delivered, packet_in}
 use Rattle.listener.specs.declared.heard.Counts.{Counts}
 use Rattle.listener.specs.declared.plan.ListenPlan.{ListenPlan}

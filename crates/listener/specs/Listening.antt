@@ -4,7 +4,7 @@ use Rattle.clock_track.specs.Rows.{clock_spot}
 use Rattle.pcap_frames.specs.Capture.{Record}
 use Rattle.sample_schedule.specs.declared.entry.Entry.{Entry}
 use Rattle.sample_schedule.specs.declared.shown.Shown.{Shown}
-use Rattle.sample_schedule.specs.Judge.{IsIdle as IsIdleJudge, JudgeState, StandsFor as JudgeStandsFor}
+use Rattle.schedule_judge.specs.Judge.{IsIdle as IsIdleJudge, JudgeState, StandsFor as JudgeStandsFor}
 use Rattle.listener.specs.declared.heard.Counts.{Counts}
 use Rattle.listener.specs.declared.plan.ListenPlan.{ListenPlan}
 use Rattle.listener.specs.Gathering.{Gathered, HasUnits, item_entry, left}

@@ -4,7 +4,7 @@ ghost use Rattle.std.specs.Prelude.{◌≡◌, ◌+◌, ◌^◌, ◌<◌, ◌≤
 ghost use Rattle.std.specs.Option.{option_to_list};
 ghost use Rattle.pcap_frames.specs.Capture.{Record};
 ghost use Rattle.pcap_frames.specs.Reading.{shown};
-ghost use Rattle.sample_schedule.specs.Judge.{IsIdle as IsIdleJudge};
+ghost use Rattle.schedule_judge.specs.Judge.{IsIdle as IsIdleJudge};
 ghost use Rattle.sample_schedule.specs.Limits.{IsPlan};
 ghost use Rattle.sample_schedule.specs.Verdicts.{total_bytes};
 ghost use Rattle.time_unfold.specs.Time.{IsArrival};
@@ -23,7 +23,8 @@ use crate::units::Units;
 use avtp_base::{Bytes, NoMemory};
 use avtp_header::subtype;
 use pcap_frames::RecordView;
-use sample_schedule::{Judge, Shown};
+use sample_schedule::Shown;
+use schedule_judge::Judge;
 use std::alloc::Global;
 use std::marker::Model;
 

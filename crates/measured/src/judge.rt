@@ -1,12 +1,13 @@
 //! Measures a judge by itself.
 
 ghost use Rattle.std.specs.Prelude.{◌≡◌, ◌+◌, ◌≤◌, ◌<◌, ◌^◌, All, false, length};
-ghost use Rattle.sample_schedule.specs.Judge.{IsIdle, Keeps, taken};
+ghost use Rattle.schedule_judge.specs.Judge.{IsIdle, Keeps, taken};
 ghost use Rattle.sample_schedule.specs.Limits.{IsEntry};
 
 use crate::stream::Stream;
 use crate::timed::Timed;
-use sample_schedule::{Entry, Judge, SchedulePlan, Shown};
+use sample_schedule::{Entry, SchedulePlan, Shown};
+use schedule_judge::Judge;
 use std::alloc::Global;
 use std::collections::VecDeque;
 use std::time::{Clock, Instant};

@@ -1,7 +1,7 @@
 //! Measures the printing of samples by itself.
 
 ghost use Rattle.std.specs.Prelude.{◌≡◌, ◌+◌, ◌≤◌, ◌<◌, ◌^◌, All, OnSome, false, length};
-ghost use Rattle.sample_schedule.specs.Judge.{IsIdle, Keeps, taken};
+ghost use Rattle.schedule_judge.specs.Judge.{IsIdle, Keeps, taken};
 ghost use Rattle.sample_schedule.specs.Limits.{IsEntry};
 
 use crate::judge::take;
@@ -10,7 +10,8 @@ use crate::timed::Timed;
 use avtp_base::Failed;
 use avtp_files::Sink;
 use avtp_text::Text;
-use sample_schedule::{Entry, Judge, SchedulePlan, Shown};
+use sample_schedule::{Entry, SchedulePlan, Shown};
+use schedule_judge::Judge;
 use std::alloc::Global;
 use std::collections::VecDeque;
 use std::time::{Clock, Instant};

@@ -17,7 +17,7 @@ use Rattle.sample_schedule.specs.declared.item.Item.{Item}
 use Rattle.sample_schedule.specs.declared.plan.SchedulePlan.{SchedulePlan}
 use Rattle.sample_schedule.specs.declared.shown.Reason.{Reason}
 use Rattle.sample_schedule.specs.Batches.{Presented}
-use Rattle.sample_schedule.specs.Laws.{IsBefore, IsNoCopy, Pairwise, place_of, presented, times_due, times_shown, waiting_at}
+use Rattle.sample_schedule.specs.Laws.{IsBefore, IsBounded, IsNoCopy, Pairwise, place_of, presented, times_due, times_shown, waiting_at}
 use Rattle.sample_schedule.specs.Order.{between, by_instant, due_of, left_of, put_behind, standing}
 use Rattle.sample_schedule.specs.Schedule.{Given, Presents, Flags, accepted, accepted_by, arrival_of, flag_by, given, judged, latest, now_at, step, steps, verdict_at}
 use Rattle.sample_schedule.specs.Verdicts.{Clock, decided, first_instant, is_copy, is_full, total_bytes, verdict}
@@ -82,10 +82,6 @@ now-grows entries n = elim (slice_get entries n) as (λ e. slice_get entries n �
 
 -- ---- the waiting batches are bounded
 
-pub record Bounded (plan : SchedulePlan) (waiting : List Accepted) : Type 0 where
-  pub batches : length waiting ≤ plan.buffer
-  pub bytes : total_bytes waiting ≤ plan.room
-
 bytes-more : (n : ℕ) (xs : List Accepted) → fold (λ t (a : Accepted). t + length a.batch.bytes) n xs ≡ n + total_bytes xs
 bytes-more n [] = omega arith
 bytes-more n (x ∷ xs) =
@@ -113,7 +109,7 @@ lighter now (x ∷ xs) = elim (int_le now x.instant) as (λ v. total_bytes (cond
 not_full : (buffer held room total : ℕ) → cond (leb buffer held) true (ltb room total) ≡ false → (held < buffer) × (total ≤ room)
 not_full buffer held room total e = grind arith
 
-pub bounded-step : (plan : SchedulePlan) (now : ℤ) (earlier : List Accepted) (place : ℕ) (a : Accepted) → AcceptedSo plan now earlier place a → Bounded plan (standing now (earlier ++ a ∷ []))
+pub bounded-step : (plan : SchedulePlan) (now : ℤ) (earlier : List Accepted) (place : ℕ) (a : Accepted) → AcceptedSo plan now earlier place a → IsBounded plan (standing now (earlier ++ a ∷ []))
 bounded-step plan now earlier place a so =
     let fits = not_full plan.buffer (length (standing now earlier)) plan.room (total_bytes (standing now earlier) + length a.batch.bytes) so.room in
     let e : standing now (earlier ++ a ∷ []) ≡ standing now earlier ++ a ∷ [] = rw (filter-append (λ (b : Accepted). int_le now b.instant) earlier (a ∷ []), le_true now a.instant so.stands) refl in
@@ -122,26 +118,26 @@ bounded-step plan now earlier place a so =
     sum_by-append (λ (b : Accepted). length b.batch.bytes) (standing now earlier) (a ∷ []) ∙ ap (λ (k : ℕ). total_bytes (standing now earlier) + k) (omega arith) in
     rw e (record { batches = omega arith; bytes = omega arith })
 
-shrunk : (plan : SchedulePlan) (from to : ℤ) (xs : List Accepted) → from ≤ℤ to → Bounded plan (standing from xs) → Bounded plan (standing to xs)
+shrunk : (plan : SchedulePlan) (from to : ℤ) (xs : List Accepted) → from ≤ℤ to → IsBounded plan (standing from xs) → IsBounded plan (standing to xs)
 shrunk plan from to xs le b =
     let e = standing-standing from to xs le in
     let l = fewer to (standing from xs) in
     let w = lighter to (standing from xs) in
     rw (← e) (record { batches = let h = b.batches in omega arith; bytes = let h = b.bytes in omega arith })
 
-bounded-next : (clock : Clock) (plan : SchedulePlan) (entries : List Entry) (i : ℕ) → Bounded plan (standing (now_at entries i) (accepted clock plan entries i)) → Bounded plan (waiting_at clock plan entries i)
+bounded-next : (clock : Clock) (plan : SchedulePlan) (entries : List Entry) (i : ℕ) → IsBounded plan (standing (now_at entries i) (accepted clock plan entries i)) → IsBounded plan (waiting_at clock plan entries i)
 unfolding accepted
 bounded-next clock plan entries i b =
     let acc = accepted clock plan entries i in
     let now = now_at entries i in
-    let same : Bounded plan (standing now (acc ++ [])) = rw append-nil b in
-    by-verdict clock plan entries i acc (λ v. Bounded plan (standing now (acc ++ accepted_by v))) same (λ reason. same) (λ a so. bounded-step plan now acc i a so)
+    let same : IsBounded plan (standing now (acc ++ [])) = rw append-nil b in
+    by-verdict clock plan entries i acc (λ v. IsBounded plan (standing now (acc ++ accepted_by v))) same (λ reason. same) (λ a so. bounded-step plan now acc i a so)
 
-bounded-first : (clock : Clock) (plan : SchedulePlan) (entries : List Entry) → Bounded plan (standing (now_at entries zero) (accepted clock plan entries zero))
+bounded-first : (clock : Clock) (plan : SchedulePlan) (entries : List Entry) → IsBounded plan (standing (now_at entries zero) (accepted clock plan entries zero))
 unfolding accepted
 bounded-first clock plan entries = record { batches = omega arith; bytes = omega arith }
 
-pub bounded : (clock : Clock) (plan : SchedulePlan) (entries : List Entry) (i : ℕ) → Bounded plan (waiting_at clock plan entries i)
+pub bounded : (clock : Clock) (plan : SchedulePlan) (entries : List Entry) (i : ℕ) → IsBounded plan (waiting_at clock plan entries i)
 bounded clock plan entries zero = bounded-next clock plan entries zero (bounded-first clock plan entries)
 bounded clock plan entries (suc j) = bounded-next clock plan entries (suc j) (shrunk plan (now_at entries j) (now_at entries (suc j)) (accepted clock plan entries (suc j)) (now-grows entries (suc j)) (bounded clock plan entries j))
 
@@ -238,11 +234,11 @@ told clock plan entries (suc n) =
 pub presented-waiting : (clock : Clock) (plan : SchedulePlan) (entries : List Entry) (n : ℕ) → presented (steps clock plan entries n) ++ by_instant (standing (latest (take n entries)) (accepted clock plan entries n)) ≡ by_instant (accepted clock plan entries n)
 presented-waiting clock plan entries n = (told clock plan entries n).whole
 
-bounded-waiting-first : (clock : Clock) (plan : SchedulePlan) (entries : List Entry) → Bounded plan (by_instant (standing (latest (take zero entries)) (accepted clock plan entries zero)))
+bounded-waiting-first : (clock : Clock) (plan : SchedulePlan) (entries : List Entry) → IsBounded plan (by_instant (standing (latest (take zero entries)) (accepted clock plan entries zero)))
 unfolding accepted by_instant
 bounded-waiting-first clock plan entries = record { batches = omega arith; bytes = omega arith }
 
-pub bounded-waiting : (clock : Clock) (plan : SchedulePlan) (entries : List Entry) (n : ℕ) → Bounded plan (by_instant (standing (latest (take n entries)) (accepted clock plan entries n)))
+pub bounded-waiting : (clock : Clock) (plan : SchedulePlan) (entries : List Entry) (n : ℕ) → IsBounded plan (by_instant (standing (latest (take n entries)) (accepted clock plan entries n)))
 bounded-waiting clock plan entries zero = bounded-waiting-first clock plan entries
 bounded-waiting clock plan entries (suc i) =
     let waits = waiting_at clock plan entries i in

@@ -7,8 +7,5 @@ pub mod LawLemmas
 pub mod Judged
 pub mod NotedLemmas
 pub mod ClockLemmas
-pub mod JudgeSound
-pub mod JudgeLemmas
 pub mod GivenLemmas
 pub mod Growing
-pub mod Keys

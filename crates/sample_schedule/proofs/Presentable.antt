@@ -1,5 +1,5 @@
 -- If a packet's samples are counted from its head (the stamped sample), they can be presented.
-use Rattle.std.proofs.Common.{◌≡◌, inl, inr, ℕ, ◌+◌, ◌*◌, ◌^◌, ◌≤◌, ℤ, pos, neg_ℤ, ◌+ℤ◌, ◌*ℤ◌, ◌≤ℤ◌, ◌<ℤ◌, arith}
+use Rattle.std.proofs.Common.{◌≡◌, inl, inr, ℕ, ◌+◌, ◌*◌, ◌^◌, ◌≤◌, ℤ, pos, neg_ℤ, ◌+ℤ◌, ◌*ℤ◌, ◌≤ℤ◌, ◌<ℤ◌, refl, arith}
 use Rattle.std.proofs.Math.Nat.{mul-le-mul_left}
 use Rattle.std.proofs.lemmas.Int.{ints, by_lt_z}
 use Rattle.clock_track.specs.Limits.{IsClockLine}
@@ -71,6 +71,10 @@ presentable p head is near =
       numbers = omega (arith, ints);
       instants = λ j within. in_range head.instant (head.first +ℤ pos j) p.rate fast near.from near.to (λ h. near.own (omega (arith, ints))) (omega (arith, ints)) (omega (arith, ints));
     }
+
+pub nominal-same : (p : Packet) (head : Head) (base first : ℤ) (den : ℕ) → base ≡ head.instant → den ≡ p.rate → first ≡ head.first
+    → samples_at p (record { line = record { base = base; num = 1000000000; den = den }; from = first }) ≡ samples_at p (nominal_spot p.rate head)
+nominal-same p head base first den e f g = rw (e, f, g) refl
 
 pub counted_presentable : (p : Packet) (head : Head) (base first : ℤ) (den : ℕ) → base ≡ head.instant → den ≡ p.rate → first ≡ head.first → HasSamples p → IsCountable head → IsPresentable (record { frame = p.frame; seq = p.seq; line = record { base = base; num = 1000000000; den = den }; from = first; count = p.count; bytes = p.bytes })
 counted_presentable p head base first den e f g is near = rw (e, f, g) (presentable p head is near)

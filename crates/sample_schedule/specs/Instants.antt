@@ -17,3 +17,13 @@ pub record IsInstantOf (i : Instant) (batch : Presented) : Type 0 where
   pub is_step : i.step * batch.line.den + i.step_rest ≡ batch.line.num
   pub below : i.step_rest < batch.line.den
   pub small : i.step ≤ 2 ^ 60
+
+-- `i` holds the instant of the batch's first sample
+pub record IsFirstOf (i : Instant) (batch : Presented) : Type 0 where
+  pub first : i.j ≡ 0
+  pub is : IsInstantOf i batch
+
+-- the instant went on from one sample of the batch to the next
+pub record GoesOn (old new : Instant) (batch : Presented) : Type 0 where
+  pub next : new.j ≡ old.j + 1
+  pub is : IsInstantOf new batch

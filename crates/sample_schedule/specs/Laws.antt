@@ -1,5 +1,5 @@
 -- Laws of every schedule.
-use Rattle.std.specs.Prelude.{◌≡◌, ◌≢◌, ℕ, suc, ◌==◌, ◌<◌, ◌⊎◌, ⊤, ◌<ℤ◌, List, [], ◌∷◌, count_by, filter, Option, Some, None, Result, Ok, Err}
+use Rattle.std.specs.Prelude.{◌≡◌, ◌≢◌, ℕ, suc, ◌==◌, ◌<◌, ◌≤◌, ◌⊎◌, ⊤, ◌<ℤ◌, List, [], ◌∷◌, length, count_by, filter, Option, Some, None, Result, Ok, Err}
 use Rattle.std.specs.List.{AllByRecursion}
 use Rattle.sample_schedule.specs.declared.accepted.Accepted.{Accepted}
 use Rattle.sample_schedule.specs.declared.entry.Entry.{Entry}
@@ -9,7 +9,7 @@ use Rattle.sample_schedule.specs.declared.plan.SchedulePlan.{SchedulePlan}
 use Rattle.sample_schedule.specs.declared.shown.Reason.{Reason}
 use Rattle.sample_schedule.specs.Order.{standing}
 use Rattle.sample_schedule.specs.Schedule.{Given, Presents, Flags, accepted, given, now_at, prefix_of}
-use Rattle.sample_schedule.specs.Verdicts.{Clock, timed, verdict}
+use Rattle.sample_schedule.specs.Verdicts.{Clock, timed, total_bytes, verdict}
 
 -- the index, in the list of entries, of an item that is presented or flagged
 abbrev pub place_of : Given → ℕ
@@ -60,6 +60,11 @@ IsNoCopy a b = a.instant ≡ b.instant → a.batch.seq ≢ b.batch.seq
 abbrev pub Pairwise : (Accepted → Accepted → Type 0) → List Accepted → Type 0
 Pairwise R [] = ⊤
 Pairwise R (a ∷ rest) = AllByRecursion (R a) rest × Pairwise R rest
+
+-- the waiting batches are within the plan's limits: at most `buffer` batches, with at most `room` bytes together
+pub record IsBounded (plan : SchedulePlan) (waiting : List Accepted) : Type 0 where
+  pub batches : length waiting ≤ plan.buffer
+  pub bytes : total_bytes waiting ≤ plan.room
 
 -- the accepted items that wait after entry i is judged
 abbrev pub waiting_at : Clock → SchedulePlan → List Entry → ℕ → List Accepted

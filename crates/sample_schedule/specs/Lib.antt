@@ -7,7 +7,5 @@ pub mod Schedule
 pub mod Limits
 pub mod Reach
 pub mod Noted
-pub mod Judge
 pub mod Laws
-pub mod Waiting
 pub mod state

@@ -1,5 +1,2 @@
 -- Only private functions and proofs use these definitions.
 pub mod Heads
-pub mod Judge
-pub mod Order
-pub mod Waiting

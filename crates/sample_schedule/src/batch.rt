@@ -49,7 +49,7 @@ impl Batch {
     /// The instant of the first sample. For most batches the first instant is the line's base, so nothing has to be
     /// computed.
     #[inline(always)]
-    pub(crate) fn first_instant(&self) -> i64
+    pub fn first_instant(&self) -> i64
         ensures { result ≡ sample_instant self.now 0 }
     {
         if self.from == 0 {

@@ -1,14 +1,10 @@
 //! The samples of a packet are counted from a stamped sample; `head_of` finds this sample.
 
-ghost use Rattle.std.specs.Prelude.{◌≡◌, ◌+◌, ◌<◌, ℕ, IfSome, List};
-ghost use Rattle.time_unfold.specs.Limits.{IsBehind, IsRule, IsStamp, IsWant};
-ghost use Rattle.sample_schedule.specs.declared.entry.Entry.{Entry as EntryValue};
-ghost use Rattle.sample_schedule.specs.declared.entry.Entry.TheVariants.{Item as OfItem};
-ghost use Rattle.sample_schedule.specs.Heads.{head_back as head_back_of, head_of as head_of_packet, stamp_of as stamp_of_entry, usable_stamp as usable_stamp_of, want_of as want_of_packet};
-ghost use Rattle.sample_schedule.specs.Limits.{IsItem, IsPlan};
-ghost use Rattle.sample_schedule.specs.Noted.{HasNoted};
-ghost use Rattle.sample_schedule.specs.state.Heads.{HasSamples};
-ghost use Rattle.sample_schedule.specs.Reach.{IsCountable};
+ghost use Rattle.std.specs.Prelude.{◌≡◌};
+ghost use Rattle.time_unfold.specs.Limits.{IsBehind, IsRule};
+ghost use Rattle.sample_schedule.specs.Heads.{head_back as head_back_of, head_of as head_of_packet, usable_stamp as usable_stamp_of};
+ghost use Rattle.sample_schedule.specs.Limits.{IsItem};
+ghost use Rattle.sample_schedule.specs.state.Heads.{CanHaveHead, HasSamples, IsHead, IsStampOf, IsWantOf};
 
 use crate::item::{Item, Packet};
 use crate::noted::Noted;
@@ -28,8 +24,7 @@ fn usable_stamp(packet: &Packet) -> Option<u32>
 /// The usable stamp of an item, if it has one. The samples of other packets can be counted from this stamp.
 pub fn stamp_of(item: &Item) -> Option<Stamp>
     requires { IsItem item.now }
-    ensures value { result ≡ stamp_of_entry (OfItem item.now) }
-    ensures stamp { IfSome result IsStamp }
+    ensures { IsStampOf item.now result }
 {
     match item {
         Item::Packet(packet) => match usable_stamp(packet) {
@@ -49,8 +44,7 @@ pub fn stamp_of(item: &Item) -> Option<Stamp>
 fn want_of(plan: &SchedulePlan, packet: &Packet, far: &Distance) -> Want
     requires samples { HasSamples packet.now }
     requires behind { IsBehind packet.now.count far.now }
-    ensures value { result ≡ want_of_packet plan.now packet.now far.now }
-    ensures want { IsWant result }
+    ensures { IsWantOf plan.now packet.now far.now result }
 {
     Want {
         seq: packet.seq.wrapping_sub(far.packets as u8),
@@ -65,10 +59,8 @@ fn want_of(plan: &SchedulePlan, packet: &Packet, far: &Distance) -> Want
 }
 
 fn head_back(plan: &SchedulePlan, noted: &Noted, packet: &Packet) -> Option<Head>
-    requires plan { IsPlan plan.now }
-    requires samples { HasSamples packet.now }
-    ensures value { (prefix : List EntryValue) → HasNoted plan.now prefix noted.now → result ≡ head_back_of plan.now prefix packet.now }
-    ensures countable { IfSome result IsCountable }
+    requires { CanHaveHead plan.now packet.now }
+    ensures { IsHead plan.now noted.now (λ prefix. head_back_of plan.now prefix packet.now) result }
 {
     let far = packet.rule.distance(packet.seq, packet.count)?;
     let want = want_of(plan, packet, &far);
@@ -83,10 +75,8 @@ fn head_back(plan: &SchedulePlan, noted: &Noted, packet: &Packet) -> Option<Head
 /// packet's own timestamp is not usable, the latest fitting stamp among the noted stamps gives the head; if no stamp
 /// fits, there is no head.
 pub fn head_of(plan: &SchedulePlan, noted: &Noted, packet: &Packet) -> Option<Head>
-    requires plan { IsPlan plan.now }
-    requires samples { HasSamples packet.now }
-    ensures value { (prefix : List EntryValue) → HasNoted plan.now prefix noted.now → result ≡ head_of_packet plan.now prefix packet.now }
-    ensures countable { IfSome result IsCountable }
+    requires { CanHaveHead plan.now packet.now }
+    ensures { IsHead plan.now noted.now (λ prefix. head_of_packet plan.now prefix packet.now) result }
 {
     match usable_stamp(packet) {
         Some(timestamp) => Some(Head {

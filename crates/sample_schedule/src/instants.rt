@@ -1,9 +1,8 @@
 //! The instants of a batch's samples, one after the other.
 
-ghost use Rattle.std.specs.Prelude.{◌≡◌, ◌+◌, ◌<◌, pos, ◌*ℤ◌};
+ghost use Rattle.std.specs.Prelude.{◌≡◌, ◌<◌, pos, ◌*ℤ◌};
 ghost use Rattle.std.specs.Int.{int_rem_euclid};
-ghost use Rattle.sample_schedule.specs.Batches.{sample_instant};
-ghost use Rattle.sample_schedule.specs.Instants.{IsInstantOf, IsRestOf};
+ghost use Rattle.sample_schedule.specs.Instants.{GoesOn, IsFirstOf, IsInstantOf, IsRestOf};
 
 use crate::batch::Batch;
 
@@ -33,8 +32,7 @@ impl Instant {
     /// The instant of the first sample.
     #[inline(always)]
     pub fn first(batch: &Batch) -> Self
-        ensures first { result.j ≡ 0 }
-        ensures is { IsInstantOf result batch.now }
+        ensures { IsFirstOf result batch.now }
     {
         if batch.from == 0 {
             return Instant::starting(batch, batch.line.base, 0);
@@ -45,10 +43,8 @@ impl Instant {
     /// The instant of the first sample, given its whole nanoseconds and its remainder.
     #[inline(always)]
     fn starting(batch: &Batch, nanoseconds: i64, rest: u64) -> Self
-        requires at { nanoseconds ≡ sample_instant batch.now 0 }
-        requires rest { IsRestOf batch.now 0 nanoseconds rest }
-        ensures first { result.j ≡ 0 }
-        ensures is { IsInstantOf result batch.now }
+        requires { IsRestOf batch.now 0 nanoseconds rest }
+        ensures { IsFirstOf result batch.now }
     {
         let line = batch.line;
         Instant {
@@ -66,8 +62,7 @@ impl Instant {
     pub fn next(&mut self, batch: &Batch)
         requires inside { self.old.j < batch.now.count }
         requires is { IsInstantOf self.old batch.now }
-        ensures next { self.new.j ≡ self.old.j + 1 }
-        ensures is { IsInstantOf self.new batch.now }
+        ensures { GoesOn self.old self.new batch.now }
     {
         let den = batch.line.den;
         let rest = self.rest + self.step_rest;

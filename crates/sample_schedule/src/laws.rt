@@ -14,15 +14,14 @@ ghost use Rattle.sample_schedule.specs.Reach.{IsCountable};
 ghost use Rattle.sample_schedule.specs.declared.entry.Entry.{Entry};
 ghost use Rattle.sample_schedule.specs.declared.item.Item.{Item};
 ghost use Rattle.sample_schedule.specs.declared.plan.SchedulePlan.{SchedulePlan};
-ghost use Rattle.sample_schedule.specs.Laws.{IsBefore, IsNoCopy, Pairwise, given_by, presented, shown_at, times_due, times_shown, verdict_in, waiting_at};
+ghost use Rattle.sample_schedule.specs.Laws.{IsBefore, IsBounded, IsNoCopy, Pairwise, given_by, presented, shown_at, times_due, times_shown, verdict_in, waiting_at};
 ghost use Rattle.sample_schedule.specs.Order.{between, by_instant, due_of, left_of, standing};
 ghost use Rattle.sample_schedule.specs.Schedule.{accepted, due, given, settled, shown, steps, waiting};
-ghost use Rattle.sample_schedule.specs.Verdicts.{Clock, is_copy, moved, samples_at, total_bytes};
+ghost use Rattle.sample_schedule.specs.Verdicts.{Clock, is_copy, moved, samples_at};
 
 /// Whenever an entry is judged, at most `buffer` batches wait, and they have at most `room` bytes together.
 pub fn waiting_is_bounded()
-    ensures batches { (clock : Clock) (plan : SchedulePlan) (entries : List Entry) (i : ℕ) → length (waiting_at clock plan entries i) ≤ plan.buffer }
-    ensures bytes { (clock : Clock) (plan : SchedulePlan) (entries : List Entry) (i : ℕ) → total_bytes (waiting_at clock plan entries i) ≤ plan.room }
+    ensures { (clock : Clock) (plan : SchedulePlan) (entries : List Entry) (i : ℕ) → IsBounded plan (waiting_at clock plan entries i) }
 {}
 
 /// All accepted items and no others are presented, sorted by first instant and then by index.
@@ -67,8 +66,7 @@ pub fn due_is_shown_first()
 /// room. At most `look` entries are not judged.
 pub fn what_is_not_due_waits()
     ensures accepted { (clock : Clock) (plan : SchedulePlan) (entries : List Entry) → presented (steps clock plan entries (settled plan entries)) ++ waiting clock plan entries ≡ by_instant (accepted clock plan entries (settled plan entries)) }
-    ensures batches { (clock : Clock) (plan : SchedulePlan) (entries : List Entry) → length (waiting clock plan entries) ≤ plan.buffer }
-    ensures bytes { (clock : Clock) (plan : SchedulePlan) (entries : List Entry) → total_bytes (waiting clock plan entries) ≤ plan.room }
+    ensures bounded { (clock : Clock) (plan : SchedulePlan) (entries : List Entry) → IsBounded plan (waiting clock plan entries) }
     ensures unjudged { (plan : SchedulePlan) (entries : List Entry) → length entries ≤ settled plan entries + plan.look }
 {}
 

@@ -1,14 +1,13 @@
 //! Whether an item can be presented, and at which instants.
 
-ghost use Rattle.std.specs.Prelude.{◌≡◌, pos, List, Some};
-ghost use Rattle.clock_track.specs.Limits.{IsClockLine};
+ghost use Rattle.std.specs.Prelude.{◌≡◌, List, Some};
 ghost use Rattle.sample_schedule.specs.declared.entry.Entry.{Entry as EntryValue};
 ghost use Rattle.sample_schedule.specs.declared.plan.SchedulePlan.{SchedulePlan as SchedulePlanValue};
 ghost use Rattle.sample_schedule.specs.Batches.{IsPresentable};
 ghost use Rattle.sample_schedule.specs.Limits.{IsItem, IsPlan, IsUnit};
 ghost use Rattle.sample_schedule.specs.Noted.{HasNoted};
 ghost use Rattle.sample_schedule.specs.state.Heads.{CanCount};
-ghost use Rattle.sample_schedule.specs.Verdicts.{Clock, IsClockOf, counted_from as counted_from_head, moved, nominal_spot, samples_at, timed as timed_of, unit_at_once};
+ghost use Rattle.sample_schedule.specs.Verdicts.{Clock, IsClockOf, counted_from as counted_from_head, samples_at, timed as timed_of, unit_at_once};
 
 use crate::batch::Batch;
 use crate::head::head_of;
@@ -49,30 +48,6 @@ fn samples_on(packet: Packet, line: Line, from: i64) -> Batch
     }
 }
 
-/// The samples of a packet on the nominal line of its head.
-#[inline(always)]
-fn on_nominal_line(packet: Packet, head: &Head) -> Batch
-    requires { CanCount packet head.now }
-    ensures { result ≡ samples_at packet (nominal_spot packet.rate head.now) }
-{
-    let line = Line {
-        base: head.instant,
-        num: NANOSECONDS,
-        den: u64::from(packet.rate),
-    };
-    samples_on(packet, line, head.first)
-}
-
-/// The samples of a packet on a line of the clock. `number` is the number that the packet's stamped sample has on
-/// `line`.
-fn on_clock_line(packet: Packet, head: &Head, line: Line, number: u64) -> Batch
-    requires head { CanCount packet head.now }
-    requires line { IsClockLine packet.rate head.now.instant (record { line = line; from = pos number }) }
-    ensures { result ≡ samples_at packet (moved head.now.first (record { line = line; from = pos number })) }
-{
-    samples_on(packet, line, number as i64 + head.first)
-}
-
 /// The samples of a packet, counted from its head. If there is a clock, the samples are on the clock's line that covers
 /// the head's instant; otherwise they are on the nominal line.
 #[inline(always)]
@@ -81,9 +56,19 @@ fn counted(noted: &Noted, packet: Packet, head: &Head) -> Result<Batch, Reason>
     ensures { (clock : Clock) (plan : SchedulePlanValue) (prefix : List EntryValue) → IsClockOf plan clock → HasNoted plan prefix noted.now → result ≡ counted_from_head clock plan prefix packet (Some head.now) }
 {
     match &noted.clock {
-        None => Ok(on_nominal_line(packet, head)),
+        None => {
+            let line = Line {
+                base: head.instant,
+                num: NANOSECONDS,
+                den: u64::from(packet.rate),
+            };
+            Ok(samples_on(packet, line, head.first))
+        }
         Some(clock) => match clock.line_for(head.instant, packet.rate) {
-            ClockAnswer::OnLine { line, offset } => Ok(on_clock_line(packet, head, line, offset)),
+            // `offset` is the number that the packet's stamped sample has on `line`.
+            ClockAnswer::OnLine { line, offset } => {
+                Ok(samples_on(packet, line, offset as i64 + head.first))
+            }
             ClockAnswer::NoClock => Err(Reason::NoClock),
         },
     }

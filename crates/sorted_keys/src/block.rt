@@ -5,7 +5,7 @@ ghost use Rattle.std.specs.List.{list_any};
 ghost use Rattle.std.specs.Option.{option_to_list};
 ghost use Rattle.std.specs.VecDeque.{deque_capacity};
 ghost use Rattle.sorted_keys.specs.Keys.{is_key, put_key};
-ghost use Rattle.sorted_keys.specs.state.Keys.{IsPlace, KeysAreInOrder, Moves, starts_before as starts_before_of, starts_by as starts_by_of};
+ghost use Rattle.sorted_keys.specs.state.Keys.{IsPlace, KeysAreInOrder, Moves, MovesBehind, starts_before as starts_before_of, starts_by as starts_by_of};
 
 use crate::key::Key;
 use avtp_base::NoMemory;
@@ -63,9 +63,7 @@ pub fn insert_at<T: Drop>(queue: &mut VecDeque<T>, place: usize, item: T)
 fn move_behind(keys: &mut VecDeque<Key>, count: usize, others: &mut VecDeque<Key>)
     requires count { count ≤ length keys.old.items }
     requires room { length keys.old.items + length others.old.items ≤ count + deque_capacity others.old }
-    ensures moves { Moves count keys.old.items others.old.items keys.new.items others.new.items }
-    ensures capacity { deque_capacity keys.new ≡ deque_capacity keys.old }
-    ensures others_capacity { deque_capacity others.new ≡ deque_capacity others.old }
+    ensures { MovesBehind count keys.old others.old keys.new others.new }
 {
     while keys.len() > count {
         match keys.pop_back() {
@@ -196,8 +194,7 @@ impl Block {
     pub fn split(&mut self, upper: &mut Block)
         requires full { length self.old ≡ 512 }
         requires empty { upper.old ≡ [] }
-        ensures all { self.new ++ upper.new ≡ self.old }
-        ensures half { length self.new ≡ 256 }
+        ensures { Moves 256 self.old upper.old self.new upper.new }
     {
         move_behind(&mut self.keys, HALF, &mut upper.keys);
     }

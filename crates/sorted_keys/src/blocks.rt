@@ -1,10 +1,8 @@
 //! Blocks of sorted keys.
 
-ghost use Rattle.std.specs.Prelude.{◌≡◌, ◌+◌, ◌^◌, ◌<◌, ◌≤◌, [], length, IfOk, IfSome};
-ghost use Rattle.std.specs.Option.{option_to_list};
+ghost use Rattle.std.specs.Prelude.{◌≡◌, ◌^◌, ◌<◌, [], length, IfOk};
 ghost use Rattle.std.specs.VecDeque.{deque_capacity};
-ghost use Rattle.sorted_keys.specs.Keys.{put_key};
-ghost use Rattle.sorted_keys.specs.state.Keys.{AreBlocks, AreBlocksBut, AreSpare, AreTaken, IsBlockFor, IsFullAt, KeepsKeys, all_keys};
+ghost use Rattle.sorted_keys.specs.state.Keys.{AreBlocks, AreSpare, AreTaken, IsBlockFor, IsFullAt, PutsInto, Splits, TakesEmpty};
 
 use crate::block::{Block, insert_at};
 use crate::key::Key;
@@ -38,10 +36,7 @@ fn find_block(blocks: &VecDeque<Block>, instant: i64) -> usize
 /// afterwards.
 pub fn put_into(blocks: &mut VecDeque<Block>, key: Key) -> usize
     requires { AreBlocks blocks.old.items }
-    ensures all { all_keys blocks.new.items ≡ put_key (all_keys blocks.old.items) key }
-    ensures blocks { AreBlocksBut result blocks.new.items }
-    ensures count { length blocks.new.items ≡ length blocks.old.items }
-    ensures capacity { deque_capacity blocks.new ≡ deque_capacity blocks.old }
+    ensures { PutsInto key result blocks.old blocks.new }
 {
     let place = block_for(blocks, key.instant);
     blocks[place].put(key);
@@ -54,9 +49,7 @@ pub fn split(blocks: &mut VecDeque<Block>, place: usize, mut upper: Block)
     requires full { IsFullAt place blocks.old.items }
     requires empty { upper ≡ [] }
     requires room { length blocks.old.items < deque_capacity blocks.old }
-    ensures keys { KeepsKeys blocks.old.items blocks.new.items }
-    ensures count { length blocks.new.items ≡ length blocks.old.items + 1 }
-    ensures capacity { deque_capacity blocks.old ≤ deque_capacity blocks.new }
+    ensures { Splits blocks.old blocks.new }
 {
     blocks[place].split(&mut upper);
     insert_at(blocks, place + 1, upper);
@@ -65,10 +58,7 @@ pub fn split(blocks: &mut VecDeque<Block>, place: usize, mut upper: Block)
 /// If the first block has no keys and other blocks follow it, removes and returns the first block.
 pub fn take_empty(blocks: &mut VecDeque<Block>) -> Option<Block>
     requires { AreTaken blocks.old.items }
-    ensures keys { KeepsKeys blocks.old.items blocks.new.items }
-    ensures empty { IfSome result (λ block. block ≡ []) }
-    ensures count { length blocks.new.items + length (option_to_list result) ≡ length blocks.old.items }
-    ensures capacity { deque_capacity blocks.new ≡ deque_capacity blocks.old }
+    ensures { TakesEmpty blocks.old result blocks.new }
 {
     if blocks.len() > 1 && blocks[0].is_empty() {
         blocks.pop_front()

@@ -1,9 +1,8 @@
 //! The sorted keys of waiting batches.
 
-ghost use Rattle.std.specs.Prelude.{◌≡◌, ◌<◌, ◌≤◌, ◌++◌, [], length, slice_get, IfNone, IfOk};
+ghost use Rattle.std.specs.Prelude.{◌≡◌, ◌<◌, length, slice_get, IfOk};
 ghost use Rattle.std.specs.List.{list_any};
-ghost use Rattle.std.specs.Option.{option_to_list};
-ghost use Rattle.sorted_keys.specs.Keys.{is_key, put_key};
+ghost use Rattle.sorted_keys.specs.Keys.{IsNew, TakesFirst, is_key, put_key};
 
 use crate::block::{Block, HALF, insert_at};
 use crate::blocks::{block_for, put_into, spare_blocks, split, take_empty};
@@ -38,8 +37,7 @@ impl Model for SortedKeys {
 impl SortedKeys {
     /// An empty list, with memory for `keys` keys.
     pub fn with_room(alloc: Global, keys: u32) -> Result<Self, NoMemory>
-        ensures none { IfOk result (λ sorted. sorted.list ≡ []) }
-        ensures room { IfOk result (λ sorted. keys ≤ sorted.room) }
+        ensures { IfOk result (IsNew keys) }
     {
         let count = (keys as usize).div_ceil(HALF);
         let mut blocks = VecDeque::with_capacity(alloc, count + 1)?;
@@ -89,9 +87,7 @@ impl SortedKeys {
 
     /// Removes and returns the first key.
     pub fn take_first(&mut self) -> Option<Key>
-        ensures taken { self.old.list ≡ option_to_list result ++ self.new.list }
-        ensures none { IfNone result (self.old.list ≡ []) }
-        ensures room { self.new.room ≡ self.old.room }
+        ensures { TakesFirst self.old result self.new }
     {
         let first = self.blocks[0].take_first();
         if let Some(empty) = take_empty(&mut self.blocks) {

@@ -5,7 +5,8 @@ ghost use Rattle.sample_schedule.specs.Limits.{IsPlan};
 
 use crate::captured::{Captured, entries_of};
 use avtp_base::NoMemory;
-use sample_schedule::{Reason, SchedulePlan, Shown, schedule};
+use sample_schedule::{Reason, SchedulePlan, Shown};
+use schedule_judge::schedule;
 use std::alloc::Global;
 use std::process::Abort;
 

@@ -7,7 +7,7 @@ use Rattle.pcap_frames.specs.Capture.{Record}
 use Rattle.sample_schedule.specs.declared.entry.Entry.{Entry}
 use Rattle.sample_schedule.specs.declared.shown.Shown.{Shown}
 use Rattle.sample_schedule.specs.declared.shown.Shown.TheVariants.{Present, Flag}
-use Rattle.sample_schedule.specs.Judge.{IsIdle as IsIdleJudge, JudgeState, StandsFor as JudgeStandsFor, taken}
+use Rattle.schedule_judge.specs.Judge.{IsIdle as IsIdleJudge, JudgeState, StandsFor as JudgeStandsFor, taken}
 use Rattle.sample_schedule.specs.declared.plan.SchedulePlan.{SchedulePlan}
 use Rattle.sample_schedule.specs.Schedule.{due, shown}
 use Rattle.listener.specs.declared.heard.Counts.{Counts}

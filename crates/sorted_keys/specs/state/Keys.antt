@@ -1,8 +1,12 @@
 -- Only private functions and proofs use these definitions. Sorted keys, and the blocks that hold them.
-use Rattle.std.specs.Prelude.{◌≡◌, ⊤, ℕ, ◌+◌, ◌*◌, ◌-◌, ◌==◌, ◌≤◌, zero, suc, Bool, true, false, if◌then◌else◌, ℤ, int_le, int_lt, ◌≤ℤ◌, ◌<ℤ◌, ◌<◌, List, [], ◌∷◌, length, take, drop, slice_index_or, slice_set, ◌++◌, vec_capacity, vec_len}
-use Rattle.std.specs.Global.{Vec}
+use Rattle.std.specs.Prelude.{◌≡◌, ⊤, ℕ, ◌+◌, ◌*◌, ◌-◌, ◌==◌, ◌≤◌, zero, suc, Bool, true, false, if◌then◌else◌, ℤ, int_le, int_lt, ◌≤ℤ◌, ◌<ℤ◌, ◌<◌, List, [], ◌∷◌, length, take, drop, slice_index_or, slice_set, ◌++◌, vec_capacity, vec_len, Option, IfSome}
+use Rattle.std.specs.Global.{Global, Vec}
+use Rattle.std.specs.Option.{option_to_list}
+use Rattle.std.specs.VecDeque.{deque_capacity}
+use Rattle.std.specs.declared.collections.VecDeque.{VecDeque}
 use Rattle.std.specs.List.{AllByRecursion, flat_map}
 use Rattle.sorted_keys.specs.declared.key.Key.{Key}
+use Rattle.sorted_keys.specs.Keys.{put_key}
 
 -- ---- a sorted list
 
@@ -104,3 +108,29 @@ pub record AreSpare (count : ℕ) (spare : Vec (List Key)) : Type 0 where
 pub record Moves (count : ℕ) (keys others keys_after others_after : List Key) : Type 0 where
   pub all : keys_after ++ others_after ≡ keys ++ others
   pub left : length keys_after ≡ count
+
+-- keys were moved from the end of one queue to the beginning of another queue, and both queues keep their memory
+pub record MovesBehind (count : ℕ) (keys others keys_after others_after : VecDeque Key Global) : Type 0 where
+  pub moves : Moves count keys.items others.items keys_after.items others_after.items
+  pub capacity : deque_capacity keys_after ≡ deque_capacity keys
+  pub others_capacity : deque_capacity others_after ≡ deque_capacity others
+
+-- a key was put into the block at index `place`; only this block can now be full
+pub record PutsInto (key : Key) (place : ℕ) (old new : VecDeque (List Key) Global) : Type 0 where
+  pub all : all_keys new.items ≡ put_key (all_keys old.items) key
+  pub blocks : AreBlocksBut place new.items
+  pub count : length new.items ≡ length old.items
+  pub capacity : deque_capacity new ≡ deque_capacity old
+
+-- one block was split into two
+pub record Splits (old new : VecDeque (List Key) Global) : Type 0 where
+  pub keys : KeepsKeys old.items new.items
+  pub count : length new.items ≡ length old.items + 1
+  pub capacity : deque_capacity old ≤ deque_capacity new
+
+-- the first block, which had no keys, was removed; `taken` is `None` if no block was removed
+pub record TakesEmpty (old : VecDeque (List Key) Global) (taken : Option (List Key)) (new : VecDeque (List Key) Global) : Type 0 where
+  pub keys : KeepsKeys old.items new.items
+  pub empty : IfSome taken (λ block. block ≡ [])
+  pub count : length new.items + length (option_to_list taken) ≡ length old.items
+  pub capacity : deque_capacity new ≡ deque_capacity old

@@ -4,7 +4,7 @@ use Rattle.std.specs.Option.{option_to_list}
 use Rattle.clock_track.specs.Rows.{clock_spot}
 use Rattle.sample_schedule.specs.declared.plan.SchedulePlan.{SchedulePlan}
 use Rattle.sample_schedule.specs.declared.shown.Shown.{Shown}
-use Rattle.sample_schedule.specs.Judge.{JudgeState}
+use Rattle.schedule_judge.specs.Judge.{JudgeState}
 use Rattle.listener.specs.Listening.{Judges}
 use Rattle.listener.specs.state.Listening.{shown_by}
 use Rattle.listener.proofs.Judging.{found_out, judges_on, none_in}

@@ -1,5 +1,5 @@
 use Rattle.std.proofs.Common.{◌≡◌, ◌+◌, ◌≤◌, ◌^◌, All, false, length}
-use Rattle.sample_schedule.specs.Judge.{IsIdle, taken}
+use Rattle.schedule_judge.specs.Judge.{IsIdle, taken}
 use Rattle.sample_schedule.specs.Limits.{IsEntry}
 use Rattle.measured.proofs.judge.judge_all.Given as goal
 

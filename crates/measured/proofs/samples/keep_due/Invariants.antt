@@ -1,4 +1,4 @@
-use Rattle.sample_schedule.specs.Judge.{Keeps, work}
+use Rattle.schedule_judge.specs.Judge.{Keeps, work}
 use Rattle.measured.proofs.samples.keep_due.Given as goal
 
 abbrev pub invariant-loop-shown : goal.invariant-loop-shown

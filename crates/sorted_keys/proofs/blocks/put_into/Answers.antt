@@ -20,14 +20,13 @@ put-requires c =
 put-into : (bs : List (List Key)) (n : ℕ) (b now : List Key) (k : Key) → IsBlockFor (to_z w64 (of_z w64 k.instant)) bs n → to_z w64 (of_z w64 k.instant) ≡ k.instant → b ≡ get_or bs n b → now ≡ put_key b k → IsPutInto bs (slice_set bs n now) n b k
 put-into bs n b now k place is read put = record { place = rw is at place; read = read; set = ap (λ (x : List Key). slice_set bs n x) put }
 
-pub returns-clause-all : goal.returns-clause-all
-returns-clause-all c =
+pub returns : goal.returns
+returns c =
     let is : to_z w64 (of_z w64 c.args.key.instant) ≡ c.args.key.instant = search (rules, ints) in
-    put-all c.args.blocks.now.items _ c.block_for-place.result c.index_mut.result.now c.args.key
-    (put-into c.args.blocks.now.items c.block_for-place.result c.index_mut.result.now c.put.new.self c.args.key c.block_for-place.ensures is c.index_mut.ensures.value c.put.ensures)
-
-pub returns-clause-blocks : goal.returns-clause-blocks
-returns-clause-blocks c =
-    let is : to_z w64 (of_z w64 c.args.key.instant) ≡ c.args.key.instant = search (rules, ints) in
-    put-blocks c.args.blocks.now.items _ c.block_for-place.result c.index_mut.result.now c.args.key c.requires
-    (put-into c.args.blocks.now.items c.block_for-place.result c.index_mut.result.now c.put.new.self c.args.key c.block_for-place.ensures is c.index_mut.ensures.value c.put.ensures)
+    let put = put-into c.args.blocks.now.items c.block_for-place.result c.index_mut.result.now c.put.new.self c.args.key c.block_for-place.ensures is c.index_mut.ensures.value c.put.ensures in
+    record {
+      all = put-all c.args.blocks.now.items _ c.block_for-place.result c.index_mut.result.now c.args.key put;
+      blocks = put-blocks c.args.blocks.now.items _ c.block_for-place.result c.index_mut.result.now c.args.key c.requires put;
+      count = search rules;
+      capacity = search rules;
+    }

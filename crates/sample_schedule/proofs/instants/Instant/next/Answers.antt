@@ -1,4 +1,4 @@
-use Rattle.std.proofs.Common.{◌≡◌, ◌+◌, ◌-◌, pos, ◌+ℤ◌, refl, ap, arith, subst}
+use Rattle.std.proofs.Common.{◌≡◌, ◌+◌, ◌-◌, pos, ◌+ℤ◌, refl, ap, arith, rules, subst}
 use Rattle.sample_schedule.specs.Batches.{Presented, IsPresentable}
 use Rattle.time_unfold.specs.Time.{IsInstant}
 use Rattle.sample_schedule.proofs.Carried.{carried, instant_from_rest, sum_fits, sum_is}
@@ -34,8 +34,8 @@ overflow_add-self-else-rest-den-2 c =
     let small = is.small in
     sum_fits i.nanoseconds (i.nanoseconds +ℤ pos (i.step + 1)) (i.step + 1) refl now later (omega (arith, small))
 
-pub returns-then-rest-den-clause-is : goal.returns-then-rest-den-clause-is
-returns-then-rest-den-clause-is c =
+pub returns-then-rest-den : goal.returns-then-rest-den
+returns-then-rest-den c =
     let is = c.requires.is in
     let i = c.args.self.now in
     let den = ap (λ (b : Presented). b.line.den) c.batch.view_is in
@@ -49,16 +49,19 @@ returns-then-rest-den-clause-is c =
     let later : IsInstant (i.nanoseconds +ℤ pos (i.step)) = rw next (instants (i.j + 1) (omega (arith, inside))) in
     let small = is.small in
     let value = sum_is i.nanoseconds (i.nanoseconds +ℤ pos (i.step)) (i.step) refl now later (omega (arith, small)) in
-    rw value record {
-      at = next;
-      is_rest = rest;
-      is_step = is.is_step;
-      below = is.below;
-      small = is.small;
+    record {
+      next = search rules;
+      is = rw value record {
+        at = next;
+        is_rest = rest;
+        is_step = is.is_step;
+        below = is.below;
+        small = is.small;
+      };
     }
 
-pub returns-else-rest-den-clause-is : goal.returns-else-rest-den-clause-is
-returns-else-rest-den-clause-is c =
+pub returns-else-rest-den : goal.returns-else-rest-den
+returns-else-rest-den c =
     let is = c.requires.is in
     let i = c.args.self.now in
     let den = ap (λ (b : Presented). b.line.den) c.batch.view_is in
@@ -70,10 +73,13 @@ returns-else-rest-den-clause-is c =
     let later : IsInstant (i.nanoseconds +ℤ pos (i.step + 1)) = rw next (instants (i.j + 1) (omega (arith, inside))) in
     let small = is.small in
     let value = sum_is i.nanoseconds (i.nanoseconds +ℤ pos (i.step + 1)) (i.step + 1) refl now later (omega (arith, small)) in
-    rw value record {
-      at = next;
-      is_rest = rw den rest;
-      is_step = is.is_step;
-      below = is.below;
-      small = is.small;
+    record {
+      next = search rules;
+      is = rw value record {
+        at = next;
+        is_rest = rw den rest;
+        is_step = is.is_step;
+        below = is.below;
+        small = is.small;
+      };
     }

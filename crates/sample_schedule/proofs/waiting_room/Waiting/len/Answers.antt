@@ -1,9 +1,0 @@
-use Rattle.std.proofs.Common.{◌≡◌, ap, rules, sym, ◌∙◌, length}
-use Rattle.sample_schedule.specs.Waiting.{Held}
-use Rattle.sample_schedule.proofs.Keys.{held-length}
-use Rattle.sample_schedule.proofs.waiting_room.Waiting.len.Goals as goal
-
-pub returns : goal.returns
-returns c =
-    let count : c.len.result ≡ length c.self.inside.keys.list = search rules in
-    count ∙ sym (held-length c.self.inside.batches c.self.inside.keys.list c.self.invariant.there) ∙ ap (λ (h : Held). length h.list) c.self.view_is

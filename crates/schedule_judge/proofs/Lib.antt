@@ -1,0 +1,4 @@
+pub mod JudgeSound
+pub mod JudgeLemmas
+pub mod GivenLemmas
+pub mod Keys

@@ -1,0 +1,3 @@
+pub mod Judge
+pub mod Waiting
+pub mod state
