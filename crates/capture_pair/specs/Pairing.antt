@@ -1,14 +1,17 @@
 -- Two listeners that have the same plan, and the differences between what they present. Each listener is given the
 -- records of one capture.
-use Rattle.std.specs.Prelude.{◌≡◌, ℕ, ◌+◌, ◌≤◌, Bool, true, List, [], length, take, Option, Some}
+use Rattle.std.specs.Prelude.{◌≡◌, ℕ, ◌+◌, ◌≤◌, Bool, true, false, List, [], ◌∷◌, ◌++◌, length, slice_get, take, Option, Some, None, Result, IfNone, OnErr, OnOk}
+use Rattle.std.specs.Option.{option_to_list}
 use Rattle.pcap_frames.specs.Capture.{Record}
 use Rattle.sample_schedule.specs.Batches.{Presented}
 use Rattle.sample_schedule.specs.declared.shown.Shown.{Shown}
 use Rattle.listener.specs.declared.plan.ListenPlan.{ListenPlan}
 use Rattle.listener.specs.Laws.{presented_of}
 use Rattle.listener.specs.Listening.{ListenState, StandsFor as IsGiven, is_closed, out, work}
+use Rattle.listener_pair.specs.declared.difference.Difference.{Difference}
 use Rattle.listener_pair.specs.declared.difference.Which.{Which}
 use Rattle.listener_pair.specs.declared.difference.Which.TheVariants.{A, B}
+use Rattle.listener_pair.specs.Differences.{differences}
 use Rattle.listener_pair.specs.Merged.{Sided, known, merged}
 use Rattle.listener_pair.specs.Matching.{IsIdle, MatchingState, StandsFor as IsMatched, nexts_left, wanted}
 
@@ -117,3 +120,48 @@ pub record Changes (which : Which) (more : ℕ) (ended : Bool) (old new : PairSt
   pub closed : is_closed (listener_of which new) ≡ ended
   pub other_frames : (listener_of (other_of which) new).counts.frames ≡ (listener_of (other_of which) old).counts.frames
   pub other_closed : is_closed (listener_of (other_of which) new) ≡ is_closed (listener_of (other_of which) old)
+
+-- ---- calls
+
+-- A new pair of listeners of the plan `settings` was given no record, and side A is wanted.
+pub record Begins (settings : ListenPlan) (pair : PairState) : Type 0 where
+  pub stands : StandsFor [] [] 0 pair
+  pub plan : HavePlan settings pair
+  pub «open» : wanted_by pair ≡ Some A
+  pub none_a : pair.a.counts.frames ≡ 0
+  pub none_b : pair.b.counts.frames ≡ 0
+  pub going : (is_closed pair.a ≡ false) × (is_closed pair.b ≡ false)
+
+-- `answer` is the side that is wanted. The listener of a wanted side is open. If no side is wanted, and all of the known
+-- part was compared, both listeners are closed.
+pub record Wants (pair : PairState) (answer : Option Which) : Type 0 where
+  pub wanted : answer ≡ wanted_by pair
+  pub «open» : (which : Which) → answer ≡ Some which → is_closed (listener_of which pair) ≡ false
+  pub closed : answer ≡ None → IsThrough pair → (is_closed pair.a ≡ true) × (is_closed pair.b ≡ true)
+  pub ends : EndsAreClosed pair
+
+-- The listener of side `which` was given the record `r`. If memory ran out, nothing changed.
+pub record TakesRecord {X Y : Type 0} (which : Which) (r : Record) (old new : PairState) (result : Result X Y) : Type 0 where
+  pub stands_a : which ≡ A
+      → OnOk result ((records others : List Record) (given : ℕ) → StandsFor records others given old → StandsFor (records ++ r ∷ []) others given new)
+  pub stands_b : which ≡ B
+      → OnOk result ((records others : List Record) (given : ℕ) → StandsFor records others given old → StandsFor records (others ++ r ∷ []) given new)
+  pub taken : OnOk result (Changes which 1 false old new)
+  pub same : OnErr result (new ≡ old)
+
+-- The listener of side `which` was closed.
+pub record Closes (which : Which) (old new : PairState) : Type 0 where
+  pub stands : (records others : List Record) (given : ℕ) → StandsFor records others given old → StandsFor records others given new
+  pub closed : Changes which 0 true old new
+
+-- The next difference in the known part of the merged list is `difference`. If it is `None`, all of that part was
+-- compared.
+pub record GivesNext (old new : PairState) (difference : Option Difference) : Type 0 where
+  pub given : (records others : List Record) (given : ℕ) → StandsFor records others given old
+      → difference ≡ slice_get (differences (known_by old records others)) given
+  pub stands : (records others : List Record) (given : ℕ) → StandsFor records others given old
+      → StandsFor records others (given + length (option_to_list difference)) new
+  pub through : IfNone difference (IsThrough new)
+  pub keeps : Keeps old new
+  pub ends : EndsAreClosed new
+  pub less : most_left new + length (option_to_list difference) ≤ most_left old

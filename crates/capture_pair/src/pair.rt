@@ -1,18 +1,13 @@
 //! Two captures whose bytes are fed in pieces of any length.
 
-ghost use Rattle.std.specs.Prelude.{◌≡◌, ◌↔◌, ◌+◌, ◌^◌, ◌≤◌, ◌++◌, [], ℕ, true, false, List, length, slice_get, take, None, Some, Err, IfNone, IfOk, option_map};
-ghost use Rattle.std.specs.Option.{option_to_list};
+ghost use Rattle.std.specs.Prelude.{◌≡◌, ◌+◌, ◌^◌, ◌≤◌, List, ℕ, length, Some, IfOk};
 ghost use Rattle.std.specs.Result.{result_err};
-ghost use Rattle.avtp_base.specs.declared.refusal.Refusal.{Refusal as RefusalValue};
-ghost use Rattle.pcap_frames.specs.Capture.{first_refusal};
-ghost use Rattle.pcap_frames.specs.Layout.{certain};
 ghost use Rattle.pcap_frames.specs.Reading.{taken};
 ghost use Rattle.sample_schedule.specs.Limits.{IsPlan};
-ghost use Rattle.listener.specs.Feeding.{bytes_after, is_ended, is_memory};
+ghost use Rattle.listener.specs.Feeding.{is_memory};
 ghost use Rattle.listener.specs.Heard.{schedule_plan};
-ghost use Rattle.listener.specs.declared.listener.ListenFault.TheVariants.{Refused as IsRefused, Memory as OutOfMemory};
-ghost use Rattle.listener_pair.specs.Differences.{counts_of, differences};
-ghost use Rattle.capture_pair.specs.Feeding.{AreShort, HavePlan, IsThrough, Keeps, KeepsOther, StandsFor, bytes_of, fed_of, known_by, most_left, wanted_by};
+ghost use Rattle.listener_pair.specs.Differences.{counts_of};
+ghost use Rattle.capture_pair.specs.Feeding.{AreShort, Begins, Ends, Feeds, GivesNext, IsThrough, StandsFor, Wants, fed_of, known_by, wanted_by};
 ghost use Rattle.capture_pair.specs.state.Fed.{EndedBy, EndedOn, FedBy, FedOn, IsBegun, IsBoundedOn, IsOpen, IsOpenOn};
 
 use crate::sides::{fill_both, next_difference};
@@ -52,11 +47,7 @@ impl Pair {
     /// A pair before it is fed. The plan must be within the limits that `ListenPlan` names.
     pub fn begin(alloc: Global, plan: ListenPlan) -> Result<Self, NoMemory>
         requires plan { IsPlan (schedule_plan plan) }
-        ensures stands { IfOk result (StandsFor [] [] 0) }
-        ensures plan { IfOk result (HavePlan plan) }
-        ensures open { IfOk result (λ pair. wanted_by pair ≡ Some Which.A) }
-        ensures none_a { IfOk result (λ pair. taken pair.a.reader ≡ 0) }
-        ensures none_b { IfOk result (λ pair. taken pair.b.reader ≡ 0) }
+        ensures { IfOk result (Begins plan) }
     {
         let a = begin_source(alloc, plan)?;
         let b = begin_source(alloc, plan)?;
@@ -67,9 +58,7 @@ impl Pair {
     /// The capture that must be fed or ended next. A capture qualifies if it has not ended and has no next batch. If
     /// both captures qualify, returns A. If no capture qualifies, returns `None`.
     pub fn wants(&self) -> Option<Which>
-        ensures wanted { result ≡ wanted_by self.now }
-        ensures open { (which : Which) → result ≡ Some which → is_ended (fed_of which self.now) ≡ false }
-        ensures closed { result ≡ None → IsThrough self.now → (is_ended self.now.a ≡ true) × (is_ended self.now.b ≡ true) }
+        ensures { Wants self.now result }
     {
         self.matching.wants()
     }
@@ -85,16 +74,7 @@ impl Pair {
     pub fn feed(&mut self, alloc: Global, which: Which, piece: &[u8]) -> Result<usize, ListenFault>
         requires wanted { wanted_by self.old ≡ Some which }
         requires bounded { taken (fed_of which self.old).reader + length piece.now ≤ 2 ^ 62 }
-        ensures within { IfOk result (λ n. n ≤ length piece.now) }
-        ensures nothing { IfOk result (λ n. (n ≡ 0) ↔ (length piece.now ≡ 0)) }
-        ensures stands_a { which ≡ Which.A → (bytes others : List ℕ) (given : ℕ) → AreShort (bytes_after bytes piece.now result) others → StandsFor bytes others given self.old → StandsFor (bytes_after bytes piece.now result) others given self.new }
-        ensures stands_b { which ≡ Which.B → (bytes others : List ℕ) (given : ℕ) → AreShort bytes (bytes_after others piece.now result) → StandsFor bytes others given self.old → StandsFor bytes (bytes_after others piece.now result) given self.new }
-        ensures uncertain { IfOk result (λ n. (bytes others : List ℕ) (given : ℕ) → StandsFor bytes others given self.old → certain (first_refusal (bytes_of which bytes others ++ take n piece.now)) ≡ None) }
-        ensures refused { (refusal : RefusalValue) → result ≡ Err (IsRefused refusal) → (bytes others more : List ℕ) (given : ℕ) → StandsFor bytes others given self.old → first_refusal ((bytes_of which bytes others ++ piece.now) ++ more) ≡ Some refusal }
-        ensures lasting { (fed_of which self.old).out_of_memory ≡ true → result ≡ Err OutOfMemory }
-        ensures memory { (fed_of which self.new).out_of_memory ≡ is_memory result }
-        ensures taken { taken (fed_of which self.new).reader ≤ taken (fed_of which self.old).reader + length piece.now }
-        ensures other { KeepsOther which self.old self.new }
+        ensures { Feeds which piece.now self.old self.new result }
     {
         let answer = feed_on(alloc, &mut self.a, &mut self.b, which, piece);
         fill_both(&mut self.a, &mut self.b, &mut self.matching);
@@ -107,11 +87,7 @@ impl Pair {
     /// this field are compared. If `feed` has returned `Memory` for this side, returns `Memory`.
     pub fn end(&mut self, which: Which) -> Result<(), ListenFault>
         requires wanted { wanted_by self.old ≡ Some which }
-        ensures stands { (bytes others : List ℕ) (given : ℕ) → AreShort bytes others → StandsFor bytes others given self.old → StandsFor bytes others given self.new }
-        ensures refused { (fed_of which self.old).out_of_memory ≡ false → (bytes others : List ℕ) (given : ℕ) → StandsFor bytes others given self.old → result_err result ≡ option_map IsRefused (first_refusal (bytes_of which bytes others)) }
-        ensures ended { (fed_of which self.old).out_of_memory ≡ false → is_ended (fed_of which self.new) ≡ true }
-        ensures lasting { (fed_of which self.old).out_of_memory ≡ true → result_err result ≡ Some OutOfMemory }
-        ensures other { KeepsOther which self.old self.new }
+        ensures { Ends which self.old self.new result }
     {
         let answer = end_on(&mut self.a, &mut self.b, which);
         fill_both(&mut self.a, &mut self.b, &mut self.matching);
@@ -123,11 +99,7 @@ impl Pair {
     /// that no later bytes can change. Until more is fed, only finitely many differences are returned. Allocates
     /// nothing.
     pub fn next_difference(&mut self) -> Option<Difference>
-        ensures given { (bytes others : List ℕ) (given : ℕ) → AreShort bytes others → StandsFor bytes others given self.old → result ≡ slice_get (differences (known_by self.old bytes others)) given }
-        ensures stands { (bytes others : List ℕ) (given : ℕ) → AreShort bytes others → StandsFor bytes others given self.old → StandsFor bytes others (given + length (option_to_list result)) self.new }
-        ensures through { IfNone result (IsThrough self.new) }
-        ensures keeps { Keeps self.old self.new }
-        ensures less { most_left self.new + length (option_to_list result) ≤ most_left self.old }
+        ensures { GivesNext self.old self.new result }
     {
         next_difference(&mut self.a, &mut self.b, &mut self.matching)
     }

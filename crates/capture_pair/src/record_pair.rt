@@ -1,15 +1,13 @@
 //! Two captures whose records are taken one at a time.
 
-ghost use Rattle.std.specs.Prelude.{◌≡◌, ◌+◌, ◌^◌, ◌<◌, ◌≤◌, ◌++◌, ◌∷◌, [], ℕ, true, false, List, length, slice_get, None, Some, IfNone, IfOk, MatchResult, OnErr, OnOk};
-ghost use Rattle.std.specs.Option.{option_to_list};
+ghost use Rattle.std.specs.Prelude.{◌≡◌, ◌^◌, ◌<◌, List, ℕ, Some, IfOk, MatchResult};
 ghost use Rattle.pcap_frames.specs.Capture.{Record};
 ghost use Rattle.pcap_frames.specs.Reading.{shown};
 ghost use Rattle.sample_schedule.specs.Limits.{IsPlan};
 ghost use Rattle.time_unfold.specs.Time.{IsArrival};
 ghost use Rattle.listener.specs.Heard.{schedule_plan};
-ghost use Rattle.listener.specs.Listening.{is_closed};
-ghost use Rattle.listener_pair.specs.Differences.{counts_of, differences};
-ghost use Rattle.capture_pair.specs.Pairing.{Changes, EndsAreClosed, HavePlan, IsThrough, Keeps, StandsFor, known_by, listener_of, most_left, wanted_by};
+ghost use Rattle.listener_pair.specs.Differences.{counts_of};
+ghost use Rattle.capture_pair.specs.Pairing.{Begins, Closes, GivesNext, IsThrough, StandsFor, TakesRecord, Wants, known_by, listener_of, wanted_by};
 ghost use Rattle.capture_pair.specs.state.Taking.{Closed, ClosedOn, IsBegun, IsQuiet, IsQuietOn, IsReady, IsReadyOn, Took, TookOn};
 
 use crate::sides::{fill_both, next_difference};
@@ -53,12 +51,7 @@ impl RecordPair {
     /// A pair before its first record. The plan must be within the limits that `ListenPlan` names.
     pub fn begin(alloc: Global, plan: ListenPlan) -> Result<Self, NoMemory>
         requires plan { IsPlan (schedule_plan plan) }
-        ensures stands { IfOk result (StandsFor [] [] 0) }
-        ensures plan { IfOk result (HavePlan plan) }
-        ensures open { IfOk result (λ pair. wanted_by pair ≡ Some Which.A) }
-        ensures none_a { IfOk result (λ pair. pair.a.counts.frames ≡ 0) }
-        ensures none_b { IfOk result (λ pair. pair.b.counts.frames ≡ 0) }
-        ensures going { IfOk result (λ pair. (is_closed pair.a ≡ false) × (is_closed pair.b ≡ false)) }
+        ensures { IfOk result (Begins plan) }
     {
         let a = begin_source(alloc, plan)?;
         let b = begin_source(alloc, plan)?;
@@ -69,10 +62,7 @@ impl RecordPair {
     /// The capture that must be given a record or closed next. A capture qualifies if it has not ended and has no next
     /// batch. If both captures qualify, returns A. If no capture qualifies, returns `None`.
     pub fn wants(&self) -> Option<Which>
-        ensures wanted { result ≡ wanted_by self.now }
-        ensures open { (which : Which) → result ≡ Some which → is_closed (listener_of which self.now) ≡ false }
-        ensures closed { result ≡ None → IsThrough self.now → (is_closed self.now.a ≡ true) × (is_closed self.now.b ≡ true) }
-        ensures ends { EndsAreClosed self.now }
+        ensures { Wants self.now result }
     {
         self.matching.wants()
     }
@@ -89,10 +79,7 @@ impl RecordPair {
         requires wanted { wanted_by self.old ≡ Some which }
         requires few { (listener_of which self.old).counts.frames < 2 ^ 61 }
         requires time { IsArrival held.now.arrival }
-        ensures stands_a { which ≡ Which.A → OnOk result ((records others : List Record) (given : ℕ) → StandsFor records others given self.old → StandsFor (records ++ shown held.now ∷ []) others given self.new) }
-        ensures stands_b { which ≡ Which.B → OnOk result ((records others : List Record) (given : ℕ) → StandsFor records others given self.old → StandsFor records (others ++ shown held.now ∷ []) given self.new) }
-        ensures taken { OnOk result (Changes which 1 false self.old self.new) }
-        ensures same { OnErr result (self.new ≡ self.old) }
+        ensures { TakesRecord which (shown held.now) self.old self.new result }
     {
         take(alloc, &mut self.a, &mut self.b, which, held)?;
         fill_both(&mut self.a, &mut self.b, &mut self.matching);
@@ -102,8 +89,7 @@ impl RecordPair {
     /// Ends the capture that is wanted: no record of it follows. Allocates nothing.
     pub fn close(&mut self, which: Which)
         requires wanted { wanted_by self.old ≡ Some which }
-        ensures stands { (records others : List Record) (given : ℕ) → StandsFor records others given self.old → StandsFor records others given self.new }
-        ensures closed { Changes which 0 true self.old self.new }
+        ensures { Closes which self.old self.new }
     {
         close(&mut self.a, &mut self.b, which);
         fill_both(&mut self.a, &mut self.b, &mut self.matching);
@@ -114,12 +100,7 @@ impl RecordPair {
     /// merged list, and no later records can change this prefix. Only finitely many differences are returned before
     /// another record is taken. Allocates nothing.
     pub fn next_difference(&mut self) -> Option<Difference>
-        ensures given { (records others : List Record) (given : ℕ) → StandsFor records others given self.old → result ≡ slice_get (differences (known_by self.old records others)) given }
-        ensures stands { (records others : List Record) (given : ℕ) → StandsFor records others given self.old → StandsFor records others (given + length (option_to_list result)) self.new }
-        ensures through { IfNone result (IsThrough self.new) }
-        ensures keeps { Keeps self.old self.new }
-        ensures ends { EndsAreClosed self.new }
-        ensures less { most_left self.new + length (option_to_list result) ≤ most_left self.old }
+        ensures { GivesNext self.old self.new result }
     {
         next_difference(&mut self.a, &mut self.b, &mut self.matching)
     }

@@ -1,9 +1,11 @@
 -- A listener that takes a capture's records one at a time, and what it has shown of them.
-use Rattle.std.specs.Prelude.{◌≡◌, ◌≤◌, ℕ, ◌+◌, ◌-◌, Bool, true, false, if◌then◌else◌, List, [], ◌++◌, length, map, take}
+use Rattle.std.specs.Prelude.{◌≡◌, ◌≤◌, ℕ, ◌+◌, ◌-◌, Bool, true, false, if◌then◌else◌, List, [], ◌∷◌, ◌++◌, length, map, slice_get, take, Option, Result, IfNone, OnErr, OnOk}
+use Rattle.std.specs.Option.{option_to_list}
 use Rattle.clock_track.specs.Rows.{clock_spot}
 use Rattle.pcap_frames.specs.Capture.{Record}
 use Rattle.sample_schedule.specs.declared.entry.Entry.{Entry}
 use Rattle.sample_schedule.specs.declared.shown.Shown.{Shown}
+use Rattle.sample_schedule.specs.Verdicts.{total_bytes}
 use Rattle.schedule_judge.specs.Judge.{IsIdle as IsIdleJudge, JudgeState, StandsFor as JudgeStandsFor}
 use Rattle.listener.specs.declared.heard.Counts.{Counts}
 use Rattle.listener.specs.declared.plan.ListenPlan.{ListenPlan}
@@ -65,3 +67,43 @@ pub record Keeps (old new : ListenState) : Type 0 where
   pub plan : new.plan ≡ old.plan
   pub frames : new.counts.frames ≡ old.counts.frames
   pub closed : is_closed new ≡ is_closed old
+
+-- ---- calls
+
+-- A new listener of the plan `settings` has taken no record, and more records may follow.
+pub record Begins (settings : ListenPlan) (listener : ListenState) : Type 0 where
+  pub stands : StandsFor [] 0 listener
+  pub plan : listener.plan ≡ settings
+  pub «open» : is_closed listener ≡ false
+  pub idle : IsIdle listener
+  pub none : listener.counts.frames ≡ 0
+
+-- The record `r` was taken after the earlier records, and is counted. If memory ran out, nothing changed.
+pub record TakesRecord {A B : Type 0} (r : Record) (old new : ListenState) (result : Result A B) : Type 0 where
+  pub stands : OnOk result ((records : List Record) (given : ℕ) → StandsFor records given old → StandsFor (records ++ r ∷ []) given new)
+  pub frames : OnOk result (new.counts.frames ≡ old.counts.frames + 1)
+  pub plan : new.plan ≡ old.plan
+  pub «open» : is_closed new ≡ false
+  pub same : OnErr result (new ≡ old)
+
+-- The next item that is shown of the records so far is `item`. If it is `None`, all that is due was returned.
+pub record GivesNext (old new : ListenState) (item : Option Shown) : Type 0 where
+  pub given : (records : List Record) (given : ℕ) → StandsFor records given old → item ≡ slice_get (out old records) given
+  pub stands : (records : List Record) (given : ℕ) → StandsFor records given old → StandsFor records (given + length (option_to_list item)) new
+  pub idle : IfNone item (IsIdle new)
+  pub keeps : Keeps old new
+  pub less : work new + length (option_to_list item) ≤ work old
+
+-- The list of records has ended. The records and the items that were returned are unchanged.
+pub record Ends (old new : ListenState) : Type 0 where
+  pub stands : (records : List Record) (given : ℕ) → StandsFor records given old → StandsFor records given new
+  pub plan : new.plan ≡ old.plan
+  pub frames : new.counts.frames ≡ old.counts.frames
+  pub closed : is_closed new ≡ true
+  pub work : work new ≡ work old
+
+-- `n` batches wait for their presentation time. The waiting batches are within the plan's limits.
+pub record HoldsWaiting (n : ℕ) (listener : ListenState) : Type 0 where
+  pub held : n ≡ length listener.judge.waiting
+  pub batches : n ≤ listener.plan.buffer
+  pub bytes : total_bytes listener.judge.waiting ≤ listener.plan.room

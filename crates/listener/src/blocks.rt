@@ -6,7 +6,7 @@ ghost use Rattle.listener.specs.state.Views.{delivery_shape};
 ghost use Rattle.listener.specs.Items.{block_rule as block_rule_of, blocks_of as blocks_of_packet};
 
 use crate::buffer_pool::BufferPool;
-use crate::delivery::DeliveryView;
+use crate::delivery_view::DeliveryView;
 use avtp_base::NoMemory;
 use iec61883_format::{Cip, IecView, rate_of_fdf, syt_interval};
 use sample_schedule::{Item, Packet};

@@ -1,15 +1,13 @@
 //! A whole capture at once.
 
-ghost use Rattle.std.specs.Prelude.{◌≡◌, ◌+◌, ◌≤◌, ◌^◌, [], ℕ, ℤ, true, List, IfOk, OnOk, length};
+ghost use Rattle.std.specs.Prelude.{◌≡◌, ◌+◌, ◌≤◌, ◌^◌, ℤ, IfOk, OnOk, length};
 ghost use Rattle.packet_journal.specs.Packets.{PacketJournal};
-ghost use Rattle.pcap_frames.specs.Capture.{first_refusal, whole_records};
+ghost use Rattle.pcap_frames.specs.Capture.{whole_records};
 ghost use Rattle.pcap_frames.specs.Reading.{taken};
-ghost use Rattle.sample_schedule.specs.declared.shown.Shown.{Shown as ShownItem};
 ghost use Rattle.sample_schedule.specs.Limits.{IsPlan};
-ghost use Rattle.listener.specs.Feeding.{StandsFor, is_ended};
-ghost use Rattle.listener.specs.state.Feeding.{CanFeed, FeedsPiece, GivesAll, HasGiven};
+ghost use Rattle.listener.specs.state.Feeding.{CanFeed, FeedsPiece, GivesAll, Stops};
 ghost use Rattle.listener.specs.Headline.{KeepsHeadline};
-ghost use Rattle.listener.specs.Heard.{counts_of, heard_of, schedule_plan, shown_of};
+ghost use Rattle.listener.specs.Heard.{heard_of, schedule_plan};
 ghost use Rattle.listener.specs.Laws.{HearsTalker};
 
 use crate::heard::{Heard, ShownList};
@@ -58,33 +56,12 @@ pub(crate) fn feed_piece(
 /// Ends the capture, and returns its first refusal.
 fn end(listener: &mut Listener) -> Option<Refusal>
     requires { CanFeed listener.old }
-    ensures given { (bytes : List ℕ) (list : List ShownItem) → HasGiven bytes list listener.old → HasGiven bytes list listener.new }
-    ensures refused { (bytes : List ℕ) (given : ℕ) → StandsFor bytes given listener.old → result ≡ first_refusal bytes }
-    ensures plan { listener.new.listener.plan ≡ listener.old.listener.plan }
-    ensures ended { is_ended listener.new ≡ true }
+    ensures { Stops listener.old listener.new result }
 {
     match listener.end() {
         Ok(()) | Err(ListenFault::Memory) => None,
         Err(ListenFault::Refused(refusal)) => Some(refusal),
     }
-}
-
-/// What a new listener shows of a whole capture.
-fn hear(alloc: Global, listener: &mut Listener, bytes: &[u8]) -> Result<Heard, NoMemory>
-    requires begun { StandsFor [] 0 listener.old }
-    requires ready { CanFeed listener.old }
-    requires bounded { taken listener.old.reader + length bytes.now ≤ 2 ^ 62 }
-    ensures { IfOk result (λ heard. heard ≡ heard_of listener.old.listener.plan bytes.now) }
-{
-    let mut list = Vec::new(alloc);
-    feed_piece(alloc, listener, bytes, &mut list)?;
-    let refused = end(listener);
-    give_all(listener, &mut list)?;
-    Ok(Heard {
-        shown: ShownList::over(list),
-        counts: listener.counts(),
-        refused,
-    })
 }
 
 /// What a listener shows of a whole capture: the schedule of the stream's packets, the counts, and the first refusal.
@@ -114,12 +91,16 @@ pub fn whole(alloc: Global, plan: &ListenPlan, bytes: &[u8]) -> Result<Heard, No
     requires plan { IsPlan (schedule_plan plan.now) }
     requires bounded { length bytes.now ≤ 2 ^ 62 }
     ensures exact { IfOk result (λ heard. heard ≡ heard_of plan.now bytes.now) }
-    ensures shown { IfOk result (λ heard. heard.shown ≡ shown_of plan.now (whole_records bytes.now)) }
-    ensures counts { IfOk result (λ heard. heard.counts ≡ counts_of plan.now (whole_records bytes.now) heard.shown) }
-    ensures refused { IfOk result (λ heard. heard.refused ≡ first_refusal bytes.now) }
     ensures headline { IfOk result (λ heard. (shift : ℤ) (p : PacketJournal) → HearsTalker shift p plan.now (whole_records bytes.now) → KeepsHeadline shift p plan.now (whole_records bytes.now) heard.shown) }
 {
     let mut listener = Listener::begin(alloc, *plan)?;
-    let heard = hear(alloc, &mut listener, bytes)?;
-    Ok(heard)
+    let mut list = Vec::new(alloc);
+    feed_piece(alloc, &mut listener, bytes, &mut list)?;
+    let refused = end(&mut listener);
+    give_all(&mut listener, &mut list)?;
+    Ok(Heard {
+        shown: ShownList::over(list),
+        counts: listener.counts(),
+        refused,
+    })
 }

@@ -6,27 +6,14 @@ ghost use Rattle.pcap_frames.specs.Reading.{shown};
 ghost use Rattle.avtp_header.specs.declared.header.Peeked.{Peeked as PeekedFields};
 ghost use Rattle.avtp_header.specs.Header.{peeked_of};
 ghost use Rattle.packet_journal.specs.Deliveries.{belongs, clock_kinds, delivery, is_avtp, is_delivered, is_wanted, packet_in, stream_kinds};
+ghost use Rattle.time_unfold.specs.Time.{IsArrival};
 ghost use Rattle.listener.specs.Streams.{stream_packet, stream_packet_shape};
 ghost use Rattle.listener.specs.state.Views.{avtp_shape, delivery_shape, is_of_clock as is_of_clock_by};
 
+use crate::delivery_view::DeliveryView;
 use crate::plan::ListenPlan;
 use avtp_header::{ETHERTYPE, Peeked, peek, subtype};
 use pcap_frames::{RecordView, read_frame};
-
-/// A record that belongs to a stream or to its clock.
-#[derive(Clone, Copy)]
-pub struct DeliveryView<'a> {
-    /// The number of the record in the capture, from 1.
-    pub frame: u64,
-    /// When the record was captured, in nanoseconds of gPTP.
-    pub arrival: i64,
-    /// The subtype of the record's packet.
-    pub subtype: u8,
-    /// The sequence number of the record's packet.
-    pub seq: u8,
-    /// The record's AVTP packet.
-    pub packet: &'a [u8],
-}
 
 /// A packet of a stream.
 #[derive(Clone, Copy, Debug)]
@@ -111,6 +98,7 @@ pub fn delivery_of<'a>(
     frame: u64,
     held: &RecordView<'a>,
 ) -> Option<DeliveryView<'a>>
+    requires { IsArrival held.now.arrival }
     ensures { option_map delivery_shape result ≡ (if is_delivered plan.now.stream plan.now.clock held.now.bytes.now then Some (delivery frame (shown held.now)) else None) }
 {
     let Ok(ethernet) = read_frame(held.bytes) else {

@@ -7,7 +7,7 @@ ghost use Rattle.listener.specs.Items.{aaf_item as aaf_item_of, iec_item as iec_
 
 use crate::blocks::blocks_of;
 use crate::buffer_pool::BufferPool;
-use crate::delivery::DeliveryView;
+use crate::delivery_view::DeliveryView;
 use aaf_format::{AafView, rate_of, read_aaf};
 use avtp_base::{NoMemory, Refusal};
 use avtp_header::subtype;

@@ -7,6 +7,7 @@ mod buffer_pool;
 mod capture;
 mod clock;
 mod delivery;
+mod delivery_view;
 mod heard;
 mod item;
 pub mod laws;

@@ -1,19 +1,15 @@
 //! What a listener shows of a capture that is fed in pieces.
 
-ghost use Rattle.std.specs.Prelude.{◌≡◌, ◌⊎◌, ◌↔◌, ◌+◌, ◌^◌, ◌<◌, ◌≤◌, ◌++◌, [], ℕ, true, false, List, length, slice_get, take, None, Some, Err, IfNone, IfOk, IsSome, MatchResult, OnErr, OnOk, option_map};
+ghost use Rattle.std.specs.Prelude.{◌≡◌, ◌+◌, ◌^◌, ◌<◌, ◌≤◌, ◌++◌, ℕ, false, List, length, take, None, IfOk, IsSome, MatchResult, OnOk};
 ghost use Rattle.std.specs.Option.{option_to_list};
-ghost use Rattle.std.specs.Result.{result_err};
-ghost use Rattle.avtp_base.specs.declared.refusal.Refusal.{Refusal as RefusalValue};
-ghost use Rattle.pcap_frames.specs.Capture.{first_refusal, whole_records};
-ghost use Rattle.pcap_frames.specs.Layout.{certain};
+ghost use Rattle.pcap_frames.specs.Capture.{whole_records};
 ghost use Rattle.pcap_frames.specs.Reading.{IsNext, Passes, held as held_by, taken};
 ghost use Rattle.sample_schedule.specs.Limits.{IsPlan};
-ghost use Rattle.sample_schedule.specs.Verdicts.{total_bytes};
-ghost use Rattle.listener.specs.Feeding.{IsQuiet, IsReady, Keeps, StandsFor, bytes_after, is_ended, is_memory, out, work};
+ghost use Rattle.listener.specs.Feeding.{Begins, Ends, Feeds, GivesNext, IsQuiet, StandsFor, is_ended, out};
+ghost use Rattle.listener.specs.Listening.{HoldsWaiting};
 ghost use Rattle.listener.specs.state.Feeding.{HearsNext};
 ghost use Rattle.listener.specs.state.Listening.{Rests};
 ghost use Rattle.listener.specs.Heard.{counts_of, schedule_plan};
-ghost use Rattle.listener.specs.declared.listener.ListenFault.TheVariants.{Refused as IsRefused, Memory as OutOfMemory};
 
 use crate::heard::Counts;
 use crate::plan::ListenPlan;
@@ -68,11 +64,7 @@ impl Listener {
     /// A new listener. The plan must be within the limits that `ListenPlan` names.
     pub fn begin(alloc: Global, plan: ListenPlan) -> Result<Self, NoMemory>
         requires plan { IsPlan (schedule_plan plan) }
-        ensures stands { IfOk result (StandsFor [] 0) }
-        ensures plan { IfOk result (λ fed. fed.listener.plan ≡ plan) }
-        ensures open { IfOk result (λ fed. is_ended fed ≡ false) }
-        ensures ready { IfOk result IsReady }
-        ensures none { IfOk result (λ fed. taken fed.reader ≡ 0) }
+        ensures { IfOk result (Begins plan) }
     {
         let reader = Reader::new(alloc)?;
         let listener = RecordListener::begin(alloc, plan)?;
@@ -95,18 +87,7 @@ impl Listener {
     pub fn feed(&mut self, alloc: Global, piece: &[u8]) -> Result<usize, ListenFault>
         requires open { is_ended self.old ≡ false }
         requires bounded { taken self.old.reader + length piece.now ≤ 2 ^ 62 }
-        ensures within { IfOk result (λ n. n ≤ length piece.now) }
-        ensures nothing { IfOk result (λ n. (n ≡ 0) ↔ ((length piece.now ≡ 0) ⊎ IsSome self.old.next)) }
-        ensures stands { (bytes : List ℕ) (given : ℕ) → StandsFor bytes given self.old → StandsFor (bytes_after bytes piece.now result) given self.new }
-        ensures uncertain { IsQuiet self.old → IfOk result (λ n. (bytes : List ℕ) (given : ℕ) → StandsFor bytes given self.old → certain (first_refusal (bytes ++ take n piece.now)) ≡ None) }
-        ensures refused { (refusal : RefusalValue) → result ≡ Err (IsRefused refusal) → (bytes more : List ℕ) (given : ℕ) → StandsFor bytes given self.old → first_refusal ((bytes ++ piece.now) ++ more) ≡ Some refusal }
-        ensures memory { self.new.out_of_memory ≡ is_memory result }
-        ensures lasting { self.old.out_of_memory ≡ true → result ≡ Err OutOfMemory }
-        ensures stopped { OnErr result (IsQuiet self.new) }
-        ensures plan { self.new.listener.plan ≡ self.old.listener.plan }
-        ensures open { is_ended self.new ≡ false }
-        ensures taken { IfOk result (λ n. taken self.new.reader ≡ taken self.old.reader + n) }
-        ensures bounded { taken self.new.reader ≤ taken self.old.reader + length piece.now }
+        ensures { Feeds piece.now self.old self.new result }
     {
         if self.out_of_memory {
             return Err(ListenFault::Memory);
@@ -150,11 +131,7 @@ impl Listener {
     /// `end`, all items. Returns `None` if and only if no item is left that may be returned. If the talker keeps the
     /// rules, `listener_laws::bytes_are_given_truly` applies to the items that are returned. Allocates nothing.
     pub fn next_out(&mut self) -> Option<Shown>
-        ensures given { (bytes : List ℕ) (given : ℕ) → StandsFor bytes given self.old → result ≡ slice_get (out self.old bytes) given }
-        ensures stands { (bytes : List ℕ) (given : ℕ) → StandsFor bytes given self.old → StandsFor bytes (given + length (option_to_list result)) self.new }
-        ensures quiet { IfNone result (IsQuiet self.new) }
-        ensures keeps { Keeps self.old self.new }
-        ensures less { work self.new + length (option_to_list result) ≤ work self.old }
+        ensures { GivesNext self.old self.new result }
     {
         if self.next.is_none() {
             return None;
@@ -181,11 +158,7 @@ impl Listener {
     pub fn end(&mut self) -> Result<(), ListenFault>
         requires open { is_ended self.old ≡ false }
         requires quiet { IsQuiet self.old }
-        ensures stands { (bytes : List ℕ) (given : ℕ) → StandsFor bytes given self.old → StandsFor bytes given self.new }
-        ensures refused { self.old.out_of_memory ≡ false → (bytes : List ℕ) (given : ℕ) → StandsFor bytes given self.old → result_err result ≡ option_map IsRefused (first_refusal bytes) }
-        ensures ended { self.old.out_of_memory ≡ false → is_ended self.new ≡ true }
-        ensures lasting { self.old.out_of_memory ≡ true → (result ≡ Err OutOfMemory) × (self.new ≡ self.old) }
-        ensures plan { self.new.listener.plan ≡ self.old.listener.plan }
+        ensures { Ends self.old self.new result }
     {
         if self.out_of_memory {
             return Err(ListenFault::Memory);
@@ -201,9 +174,7 @@ impl Listener {
     /// How many batches wait for their presentation time: at most the plan's `buffer`. The waiting batches together
     /// have at most `room` bytes.
     pub fn held(&self) -> u32
-        ensures held { result ≡ length self.now.listener.judge.waiting }
-        ensures batches { result ≤ self.now.listener.plan.buffer }
-        ensures bytes { total_bytes self.now.listener.judge.waiting ≤ self.now.listener.plan.room }
+        ensures { HoldsWaiting result self.now.listener }
     {
         self.listener.held()
     }

@@ -1,21 +1,19 @@
 //! What a listener shows, from one record of a capture at a time.
 
-ghost use Rattle.std.specs.Prelude.{◌≡◌, ◌+◌, ◌^◌, ◌<◌, ◌≤◌, ◌++◌, ◌∷◌, [], ℕ, true, false, List, length, slice_get, None, IfNone, IfOk, OnErr, OnOk};
-ghost use Rattle.std.specs.Option.{option_to_list};
-ghost use Rattle.pcap_frames.specs.Capture.{Record};
+ghost use Rattle.std.specs.Prelude.{◌≡◌, ◌^◌, ◌<◌, false, None, IfOk};
 ghost use Rattle.pcap_frames.specs.Reading.{shown};
 ghost use Rattle.schedule_judge.specs.Judge.{IsIdle as IsIdleJudge};
 ghost use Rattle.sample_schedule.specs.Limits.{IsPlan};
-ghost use Rattle.sample_schedule.specs.Verdicts.{total_bytes};
 ghost use Rattle.time_unfold.specs.Time.{IsArrival};
 ghost use Rattle.listener.specs.Heard.{schedule_plan};
-ghost use Rattle.listener.specs.Listening.{IsIdle, Keeps, StandsFor, is_closed, out, work};
-ghost use Rattle.listener.specs.state.Listening.{CanJudge, CanTake, Closes, GivesNext, HasTaken, JudgesNext, ShowsNext};
+ghost use Rattle.listener.specs.Listening.{Begins, Ends, GivesNext, HoldsWaiting, IsIdle, TakesRecord, is_closed};
+ghost use Rattle.listener.specs.state.Listening.{CanJudge, CanTake, Closes, HasTaken, JudgesNext, ShowsNext};
 ghost use Rattle.listener.specs.state.Views.{delivery_shape};
 
 use crate::buffer_pool::BufferPool;
 use crate::clock::clock_points;
-use crate::delivery::{DeliveryView, delivery_of};
+use crate::delivery::delivery_of;
+use crate::delivery_view::DeliveryView;
 use crate::heard::Counts;
 use crate::item::item_of;
 use crate::plan::ListenPlan;
@@ -71,11 +69,7 @@ impl RecordListener {
     /// A new listener. The plan must be within the limits that `ListenPlan` names.
     pub fn begin(alloc: Global, plan: ListenPlan) -> Result<Self, NoMemory>
         requires plan { IsPlan (schedule_plan plan) }
-        ensures stands { IfOk result (StandsFor [] 0) }
-        ensures plan { IfOk result (λ listener. listener.plan ≡ plan) }
-        ensures open { IfOk result (λ listener. is_closed listener ≡ false) }
-        ensures idle { IfOk result IsIdle }
-        ensures none { IfOk result (λ listener. listener.counts.frames ≡ 0) }
+        ensures { IfOk result (Begins plan) }
     {
         let units = Units::new(alloc)?;
         let judge = Judge::begin(alloc, plan.schedule_plan())?;
@@ -103,11 +97,7 @@ impl RecordListener {
         requires idle { IsIdle self.old }
         requires few { self.old.counts.frames < 2 ^ 62 }
         requires time { IsArrival held.now.arrival }
-        ensures stands { OnOk result ((records : List Record) (given : ℕ) → StandsFor records given self.old → StandsFor (records ++ shown held.now ∷ []) given self.new) }
-        ensures frames { OnOk result (self.new.counts.frames ≡ self.old.counts.frames + 1) }
-        ensures plan { self.new.plan ≡ self.old.plan }
-        ensures open { is_closed self.new ≡ false }
-        ensures same { OnErr result (self.new ≡ self.old) }
+        ensures { TakesRecord (shown held.now) self.old self.new result }
     {
         match delivery_of(&self.plan, self.counts.frames + 1, held) {
             None => {
@@ -134,11 +124,7 @@ impl RecordListener {
     /// `listener_laws::records_are_given_truly` applies to the items that are returned. Allocates nothing.
     #[inline(always)]
     pub fn next_out(&mut self) -> Option<Shown>
-        ensures given { (records : List Record) (given : ℕ) → StandsFor records given self.old → result ≡ slice_get (out self.old records) given }
-        ensures stands { (records : List Record) (given : ℕ) → StandsFor records given self.old → StandsFor records (given + length (option_to_list result)) self.new }
-        ensures idle { IfNone result (IsIdle self.new) }
-        ensures keeps { Keeps self.old self.new }
-        ensures less { work self.new + length (option_to_list result) ≤ work self.old }
+        ensures { GivesNext self.old self.new result }
     {
         if self.idle {
             return None;
@@ -185,11 +171,7 @@ impl RecordListener {
     pub fn close(&mut self)
         requires open { is_closed self.old ≡ false }
         requires idle { IsIdle self.old }
-        ensures stands { (records : List Record) (given : ℕ) → StandsFor records given self.old → StandsFor records given self.new }
-        ensures plan { self.new.plan ≡ self.old.plan }
-        ensures frames { self.new.counts.frames ≡ self.old.counts.frames }
-        ensures closed { is_closed self.new ≡ true }
-        ensures work { work self.new ≡ work self.old }
+        ensures { Ends self.old self.new }
     {
         self.units.end();
         self.ended = true;
@@ -199,9 +181,7 @@ impl RecordListener {
     /// How many batches wait for their presentation time: at most the plan's `buffer`. The waiting batches together
     /// have at most `room` bytes.
     pub fn held(&self) -> u32
-        ensures held { result ≡ length self.now.judge.waiting }
-        ensures batches { result ≤ self.now.plan.buffer }
-        ensures bytes { total_bytes self.now.judge.waiting ≤ self.now.plan.room }
+        ensures { HoldsWaiting result self.now }
     {
         self.judge.held()
     }
@@ -226,7 +206,6 @@ fn take_delivery(
     delivery: &DeliveryView<'_>,
 ) -> Result<(), NoMemory>
     requires ready { CanTake units.old judge.old }
-    requires arrival { IsArrival delivery.now.arrival }
     ensures { HasTaken (delivery_shape delivery.now) units.old units.new judge.old judge.new result }
 {
     if delivery.subtype == subtype::CRF {

@@ -8,15 +8,15 @@ ghost use Rattle.cvf_format.specs.Stretches.{completes};
 ghost use Rattle.crf_format.specs.Crf.{crf_subtype};
 ghost use Rattle.packet_journal.specs.Deliveries.{Delivery};
 ghost use Rattle.sample_schedule.specs.Limits.{IsItem};
-ghost use Rattle.time_unfold.specs.Time.{IsArrival, Unfolds, unfolded};
+ghost use Rattle.time_unfold.specs.Time.{Unfolds, unfolded};
 ghost use Rattle.listener.specs.Gathering.{HasUnits, item_entry, left, lost_item as lost_item_of};
-ghost use Rattle.listener.specs.state.Gathering.{Cuts, CutsFirst, Gives, GivesFirst, Pushes, Takes, own_item as own_item_of};
+ghost use Rattle.listener.specs.state.Gathering.{Begins, Cuts, CutsFirst, Gives, GivesFirst, GivesItem, Pushes, Takes, own_item as own_item_of};
 ghost use Rattle.listener.specs.Items.{left_at_end, lost_for as lost_reason, made_entry};
 ghost use Rattle.listener.specs.Units.{flaw_in, flaw_of, fragment_in, mark_of as mark_of_delivery};
 ghost use Rattle.listener.specs.state.Views.{delivery_shape};
 
 use crate::buffer_pool::BufferPool;
-use crate::delivery::DeliveryView;
+use crate::delivery_view::DeliveryView;
 use crate::item::{item_of, malformed};
 use avtp_base::{Bytes, NoMemory};
 use avtp_header::subtype;
@@ -111,7 +111,6 @@ fn flaw(view: &CvfView<'_>) -> Option<Reason>
 
 /// The presentation time of a packet.
 fn instant_of(delivery: &DeliveryView<'_>, view: &CvfView<'_>) -> i64
-    requires { IsArrival delivery.now.arrival }
     ensures value { result ≡ unfolded view.now.header.timestamp delivery.now.arrival }
     ensures unfolds { Unfolds view.now.header.timestamp delivery.now.arrival result }
 {
@@ -119,7 +118,6 @@ fn instant_of(delivery: &DeliveryView<'_>, view: &CvfView<'_>) -> i64
 }
 
 fn stamp_of(delivery: &DeliveryView<'_>, view: &CvfView<'_>) -> Option<i64>
-    requires { IsArrival delivery.now.arrival }
     ensures { result ≡ (fragment_in (delivery_shape delivery.now) (cvf_shape view.now)).instant }
 {
     if view.header.tv {
@@ -151,7 +149,6 @@ fn own_item(
 ) -> Option<Item>
     requires room { vec_len bytes + length unit.now ≤ vec_capacity bytes }
     requires empty { bytes.items ≡ [] }
-    requires arrival { IsArrival delivery.now.arrival }
     ensures own { result ≡ own_item_of (delivery_shape delivery.now) (unfolded view.now.header.timestamp delivery.now.arrival) unit.now piece }
     ensures item { IfSome result IsItem }
 {
@@ -171,8 +168,7 @@ fn own_item(
 impl Units {
     /// The state before the first delivery. Reserves the memory for the fragments of a unit.
     pub fn new(alloc: Global) -> Result<Self, NoMemory>
-        ensures stands { IfOk result (HasUnits []) }
-        ensures none { IfOk result (λ units. left units ≡ []) }
+        ensures { IfOk result Begins }
     {
         Ok(Units {
             assembler: Assembler::new(alloc)?,
@@ -200,8 +196,7 @@ impl Units {
     #[inline(always)]
     fn cut_first(&mut self, item: Item) -> Option<Item>
         requires { IsItem item }
-        ensures first { CutsFirst item self.old self.new result }
-        ensures item { IfSome result IsItem }
+        ensures { CutsFirst item self.old self.new result }
     {
         self.lost = self.assembler.cut();
         self.why = Lost::Broken;
@@ -224,7 +219,6 @@ impl Units {
     ) -> Result<(), NoMemory>
         requires body { length view.now.body.now ≤ longest_body }
         requires flawless { flaw_in (cvf_shape view.now) ≡ None }
-        requires arrival { IsArrival delivery.now.arrival }
         ensures { MatchResult result
             (λ ok. Pushes (delivery_shape delivery.now) (cvf_shape view.now) self.old self.new)
             (λ no_memory. self.new ≡ self.old) }
@@ -252,7 +246,6 @@ impl Units {
         delivery: &DeliveryView<'_>,
     ) -> Result<Option<Item>, NoMemory>
         requires stream { delivery.now.subtype ≢ crf_subtype }
-        requires arrival { IsArrival delivery.now.arrival }
         ensures { MatchResult result
             (λ first. GivesFirst (delivery_shape delivery.now) self.old self.new first)
             (λ no_memory. self.new ≡ self.old) }
@@ -273,7 +266,6 @@ impl Units {
         delivery: &DeliveryView<'_>,
     ) -> Result<(), NoMemory>
         requires video { delivery.now.subtype ≡ cvf_subtype }
-        requires arrival { IsArrival delivery.now.arrival }
         ensures { MatchResult result
             (λ ok. (ds : List Delivery) → HasUnits ds self.old → Gives ds (delivery_shape delivery.now) self.new)
             (λ no_memory. self.new ≡ self.old) }
@@ -294,7 +286,6 @@ impl Units {
         view: &CvfView<'_>,
     ) -> Result<(), NoMemory>
         requires body { length view.now.body.now ≤ longest_body }
-        requires arrival { IsArrival delivery.now.arrival }
         ensures { MatchResult result
             (λ ok. Takes (flaw_in (cvf_shape view.now)) (delivery_shape delivery.now) (cvf_shape view.now) self.old self.new)
             (λ no_memory. self.new ≡ self.old) }
@@ -319,10 +310,7 @@ impl Units {
     /// The next queued item, which the last delivery or the end of the stream has yielded. Allocates nothing.
     #[inline(always)]
     pub fn next(&mut self) -> Option<Item>
-        ensures stands { (ds : List Delivery) → HasUnits ds self.old → HasUnits ds self.new }
-        ensures left { left self.old ≡ option_to_list result ++ left self.new }
-        ensures none { IfNone result (left self.new ≡ []) }
-        ensures item { IfSome result IsItem }
+        ensures { GivesItem self.old self.new result }
     {
         if self.taken < self.lost {
             let mark = self.assembler.lost_mark(self.taken);

@@ -1,14 +1,16 @@
 -- A matching takes what two listeners present, batch by batch, and returns the differences.
-use Rattle.std.specs.Prelude.{◌≡◌, ℕ, ◌+◌, ◌^◌, ◌<◌, ◌⊎◌, ⊤, Bool, true, false, ◌&&◌, if◌then◌else◌, int_lt, ◌≤ℤ◌, ◌<ℤ◌, nat_le, List, [], ◌∷◌, ◌++◌, length, filter, map, Option, None, Some}
+use Rattle.std.specs.Prelude.{◌≡◌, ℕ, ◌+◌, ◌^◌, ◌<◌, ◌≤◌, ◌⊎◌, ⊤, Bool, true, false, ◌&&◌, if◌then◌else◌, int_lt, ◌≤ℤ◌, ◌<ℤ◌, nat_le}
+use Rattle.std.specs.Prelude.{List, [], ◌∷◌, ◌++◌, length, filter, map, slice_get, Option, None, Some, IfNone}
 use Rattle.std.specs.List.{AllByRecursion}
 use Rattle.std.specs.Option.{option_to_list}
 use Rattle.sample_schedule.specs.Batches.{Presented}
 use Rattle.sample_schedule.specs.Verdicts.{first_instant}
+use Rattle.listener_pair.specs.declared.difference.Difference.{Difference}
 use Rattle.listener_pair.specs.declared.difference.PairCounts.{PairCounts}
 use Rattle.listener_pair.specs.declared.difference.Which.{Which}
 use Rattle.listener_pair.specs.declared.difference.Which.TheVariants.{A, B}
 use Rattle.listener_pair.specs.declared.placed.Placed.{Placed}
-use Rattle.listener_pair.specs.Merged.{Sided, is_side, known, merged}
+use Rattle.listener_pair.specs.Merged.{IsInOrder, Sided, is_side, known, merged}
 use Rattle.listener_pair.specs.Pairs.{unpaired}
 use Rattle.listener_pair.specs.Differences.{counts_of, differences}
 
@@ -116,3 +118,33 @@ pub record StandsFor (xs ys : List Presented) (given : ℕ) (m : MatchingState) 
   pub waiting_b : m.waiting_b ≡ window B (length done) (unpaired done)
   pub shown : given ≡ length (differences done)
   pub counts : m.counts ≡ counts_of done
+
+-- ---- calls
+
+-- A new matching was given no batch, and side A is wanted.
+pub record Begins (m : MatchingState) : Type 0 where
+  pub stands : StandsFor [] [] 0 m
+  pub «open» : wanted m ≡ Some A
+  pub ends : (m.ended_a ≡ false) × (m.ended_b ≡ false)
+
+-- Side `which` has presented its next batch, `batch`.
+pub record Takes (which : Which) (batch : Presented) (old new : MatchingState) : Type 0 where
+  pub given : new ≡ given_to which batch old
+  pub stands_a : which ≡ A → (xs ys : List Presented) (given : ℕ) → StandsFor xs ys given old
+      → IsInOrder (xs ++ batch ∷ []) → length xs + length ys + 1 < 2 ^ 63 → StandsFor (xs ++ batch ∷ []) ys given new
+  pub stands_b : which ≡ B → (xs ys : List Presented) (given : ℕ) → StandsFor xs ys given old
+      → IsInOrder (ys ++ batch ∷ []) → length xs + length ys + 1 < 2 ^ 63 → StandsFor xs (ys ++ batch ∷ []) given new
+
+-- Side `which` has ended.
+pub record Ends (which : Which) (old new : MatchingState) : Type 0 where
+  pub ended : new ≡ ended_by which old
+  pub stands : (xs ys : List Presented) (given : ℕ) → StandsFor xs ys given old → StandsFor xs ys given new
+
+-- The next difference in the known part of the merged list is `difference`. If it is `None`, that part has no further
+-- difference.
+pub record GivesNext (old new : MatchingState) (difference : Option Difference) : Type 0 where
+  pub given : (xs ys : List Presented) (given : ℕ) → StandsFor xs ys given old → difference ≡ slice_get (differences (known_of old xs ys)) given
+  pub stands : (xs ys : List Presented) (given : ℕ) → StandsFor xs ys given old → StandsFor xs ys (given + length (option_to_list difference)) new
+  pub idle : IfNone difference (IsIdle new)
+  pub ended : (new.ended_a ≡ old.ended_a) × (new.ended_b ≡ old.ended_b)
+  pub less : nexts_left new + length (option_to_list difference) ≤ nexts_left old

@@ -1,27 +1,24 @@
 //! Laws of pairs and differences. Each law is the contract of a function; a call of the function does nothing.
 
-ghost use Rattle.std.specs.Prelude.{◌≡◌, ◌+◌, ◌≤◌, ◌++◌, Bool, true, ℕ, List, length};
+ghost use Rattle.std.specs.Prelude.{◌≡◌, ◌≤◌, ◌++◌, ℕ, List};
 ghost use Rattle.std.specs.List.{AllByRecursion};
-ghost use mathlib.Core.List.{IsPrefix};
 ghost use Rattle.sample_schedule.specs.Batches.{Presented};
 ghost use Rattle.listener_pair.specs.declared.difference.Which.TheVariants.{A, B};
-ghost use Rattle.listener_pair.specs.Differences.{counts_of, differences};
-ghost use Rattle.listener_pair.specs.Laws.{IsPair, times_paired};
+ghost use Rattle.listener_pair.specs.Differences.{counts_of};
+ghost use Rattle.listener_pair.specs.Laws.{AddUp, FewWait, IsKnownFirst, IsPair, StayFirst, times_paired};
 ghost use Rattle.listener_pair.specs.Matching.{IsSorted, MatchingState, StandsFor, batches_of};
-ghost use Rattle.listener_pair.specs.Merged.{Sided, known, merged};
+ghost use Rattle.listener_pair.specs.Merged.{Sided, merged};
 ghost use Rattle.listener_pair.specs.Pairs.{pairs};
 
 /// If batches are appended to a merged list, the pairs and differences that the list had before are the first pairs and
 /// differences of the longer list.
 pub fn pairs_stay()
-    ensures pairs { (list more : List Sided) → IsPrefix (pairs list) (pairs (list ++ more)) }
-    ensures differences { (list more : List Sided) → IsPrefix (differences list) (differences (list ++ more)) }
+    ensures { (list more : List Sided) → StayFirst list (list ++ more) }
 {}
 
 /// The known part is a prefix of the merged list. After both sides have ended, the known part is the whole merged list.
 pub fn known_comes_first()
-    ensures first { (ended_a ended_b : Bool) (list : List Sided) → IsPrefix (known ended_a ended_b list) list }
-    ensures all { (list : List Sided) → known true true list ≡ list }
+    ensures { (list : List Sided) → IsKnownFirst list }
 {}
 
 /// The two batches of a pair are of different sides and at most 512 positions apart in the merged list. The two batches
@@ -42,13 +39,11 @@ pub fn merged_is_the_only_one()
 
 /// At most 512 batches of each side wait for a partner.
 pub fn at_most_512_wait()
-    ensures a { (xs ys : List Presented) (given : ℕ) (m : MatchingState) → StandsFor xs ys given m → length m.waiting_a ≤ 512 }
-    ensures b { (xs ys : List Presented) (given : ℕ) (m : MatchingState) → StandsFor xs ys given m → length m.waiting_b ≤ 512 }
+    ensures { (xs ys : List Presented) (given : ℕ) (m : MatchingState) → StandsFor xs ys given m → FewWait m }
 {}
 
 /// Each batch is either in one pair or in no pair. So for each side, the number of all its batches is the number of
 /// pairs plus the number of the side's batches in no pair.
 pub fn counts_add_up()
-    ensures a { (xs ys : List Presented) → (counts_of (merged xs ys)).matched + (counts_of (merged xs ys)).only_a ≡ length xs }
-    ensures b { (xs ys : List Presented) → (counts_of (merged xs ys)).matched + (counts_of (merged xs ys)).only_b ≡ length ys }
+    ensures { (xs ys : List Presented) → AddUp xs ys (counts_of (merged xs ys)) }
 {}

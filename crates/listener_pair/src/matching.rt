@@ -1,13 +1,11 @@
 //! Matches the batches of two listeners, one after another.
 
-ghost use Rattle.std.specs.Prelude.{◌≡◌, ◌+◌, ◌^◌, ◌<◌, ◌≤◌, ◌++◌, ◌∷◌, [], ℕ, false, List, length, slice_get, Option, Some, None, IfNone, IfOk, IfSome, IsSome, MatchOption, is_some, option_map};
-ghost use Rattle.std.specs.Option.{option_to_list};
+ghost use Rattle.std.specs.Prelude.{◌≡◌, ℕ, List, Option, Some, IfOk, IsSome};
 ghost use Rattle.sample_schedule.specs.Batches.{Presented};
 ghost use Rattle.listener_pair.specs.Pairs.{Paired};
-ghost use Rattle.listener_pair.specs.Merged.{IsInOrder};
-ghost use Rattle.listener_pair.specs.Differences.{counts_of, differences};
-ghost use Rattle.listener_pair.specs.Matching.{IsIdle, StandsFor, ended_by, given_to, known_of, nexts_left, wanted};
-ghost use Rattle.listener_pair.specs.state.Window.{EntersSide, Tells, counted as counted_by, made_on, next_of, next_side, placed, risen, without_next};
+ghost use Rattle.listener_pair.specs.Differences.{counts_of};
+ghost use Rattle.listener_pair.specs.Matching.{Begins, Ends, GivesNext, IsIdle, StandsFor, Takes, given_to, known_of, wanted};
+ghost use Rattle.listener_pair.specs.state.Window.{Advances, HasEntered, Tells, counted as counted_by, next_of, next_side};
 
 use crate::difference::{Difference, PairCounts, Which};
 use crate::placed::Entered;
@@ -48,9 +46,7 @@ impl Model for Matching {
 impl Matching {
     /// A matching before its first batch. `begin` reserves all the memory that the matching needs.
     pub fn begin(alloc: Global) -> Result<Self, NoMemory>
-        ensures stands { IfOk result (StandsFor [] [] 0) }
-        ensures open { IfOk result (λ m. wanted m ≡ Some Which.A) }
-        ensures ends { IfOk result (λ m. (m.ended_a ≡ false) × (m.ended_b ≡ false)) }
+        ensures { IfOk result Begins }
     {
         let waiting_a = Waiting::begin(alloc)?;
         let waiting_b = Waiting::begin(alloc)?;
@@ -83,9 +79,7 @@ impl Matching {
     /// Takes the next batch of the side that is wanted. Allocates nothing.
     pub fn take(&mut self, which: Which, batch: Batch)
         requires { wanted self.old ≡ Some which }
-        ensures given { self.new ≡ given_to which batch self.old }
-        ensures stands_a { which ≡ Which.A → (xs ys : List Presented) (given : ℕ) → StandsFor xs ys given self.old → IsInOrder (xs ++ batch ∷ []) → length xs + length ys + 1 < 2 ^ 63 → StandsFor (xs ++ batch ∷ []) ys given self.new }
-        ensures stands_b { which ≡ Which.B → (xs ys : List Presented) (given : ℕ) → StandsFor xs ys given self.old → IsInOrder (ys ++ batch ∷ []) → length xs + length ys + 1 < 2 ^ 63 → StandsFor xs (ys ++ batch ∷ []) given self.new }
+        ensures { Takes which batch self.old self.new }
     {
         self.put(which, Timed::over(batch));
     }
@@ -93,8 +87,7 @@ impl Matching {
     /// Notes that the wanted side presents no further batch. Allocates nothing.
     pub fn end(&mut self, which: Which)
         requires { wanted self.old ≡ Some which }
-        ensures ended { self.new ≡ ended_by which self.old }
-        ensures stands { (xs ys : List Presented) (given : ℕ) → StandsFor xs ys given self.old → StandsFor xs ys given self.new }
+        ensures { Ends which self.old self.new }
     {
         match which {
             Which::A => self.ended_a = true,
@@ -106,11 +99,7 @@ impl Matching {
     /// difference. The known part is a prefix that no later batch can change. A call that returns a difference consumes
     /// at least one of the two next batches. Allocates nothing.
     pub fn next_difference(&mut self) -> Option<Difference>
-        ensures given { (xs ys : List Presented) (given : ℕ) → StandsFor xs ys given self.old → result ≡ slice_get (differences (known_of self.old xs ys)) given }
-        ensures stands { (xs ys : List Presented) (given : ℕ) → StandsFor xs ys given self.old → StandsFor xs ys (given + length (option_to_list result)) self.new }
-        ensures idle { IfNone result (IsIdle self.new) }
-        ensures ended { (self.new.ended_a ≡ self.old.ended_a) × (self.new.ended_b ≡ self.old.ended_b) }
-        ensures less { nexts_left self.new + length (option_to_list result) ≤ nexts_left self.old }
+        ensures { GivesNext self.old self.new result }
     {
         loop {
             let Some(side) = self.next_side() else {
@@ -174,9 +163,7 @@ impl Matching {
     /// Pairs the next batch of a side, or adds it to the batches that wait for a partner.
     fn enter(&mut self, side: Which) -> Entered
         requires { IsSome (next_of side self.old) }
-        ensures enters { IfSome (next_of side self.old) (λ batch. EntersSide side (placed self.old.place side batch) (risen self.old.place) self.old self.new (made_on side (placed self.old.place side batch) self.old)) }
-        ensures tells { IfSome (next_of side self.old) (λ batch. Tells (made_on side (placed self.old.place side batch) self.old) result) }
-        ensures same { self.new ≡ record (without_next side self.old) { waiting_a = self.new.waiting_a; waiting_b = self.new.waiting_b } }
+        ensures { HasEntered side self.old self.new result }
     {
         let place = self.place;
         match side {
@@ -201,10 +188,7 @@ impl Matching {
     /// differs, returns the difference.
     fn step(&mut self, side: Which) -> Option<Difference>
         requires { next_side self.old ≡ Some side }
-        ensures stands { (xs ys : List Presented) (given : ℕ) → StandsFor xs ys given self.old → StandsFor xs ys (given + length (option_to_list result)) self.new }
-        ensures first { IfSome result (λ difference. (xs ys : List Presented) (given : ℕ) → StandsFor xs ys given self.old → slice_get (differences (known_of self.old xs ys)) given ≡ Some difference) }
-        ensures ended { (self.new.ended_a ≡ self.old.ended_a) × (self.new.ended_b ≡ self.old.ended_b) }
-        ensures less { nexts_left self.new < nexts_left self.old }
+        ensures { Advances self.old self.new result }
     {
         let entered = self.enter(side);
         self.place = self.place.saturating_add(1);

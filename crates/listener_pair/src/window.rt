@@ -1,9 +1,7 @@
 //! The batches that wait for a partner.
 
-ghost use Rattle.std.specs.Prelude.{◌≡◌, ◌+◌, ◌<◌, ◌++◌, ◌∷◌, [], length, slice_get, None, IfNone, IfOk, IfSome, IsSome};
-ghost use Rattle.std.specs.List.{find, remove};
-ghost use Rattle.listener_pair.specs.Pairs.{without_first};
-ghost use Rattle.listener_pair.specs.state.Window.{Enters, Tells, made, placed, risen, takes_by, without_passed};
+ghost use Rattle.std.specs.Prelude.{◌≡◌, None, IfSome, IsSome};
+ghost use Rattle.listener_pair.specs.state.Window.{Enters, FindsPartner, Tells, made, placed, risen, takes_by};
 
 use crate::difference::Which;
 use crate::placed::{Entered, Placed};
@@ -41,8 +39,8 @@ impl Model for Waiting {
 }
 
 impl Waiting {
-    ghost use Rattle.std.specs.Prelude.{◌≡◌, ◌<◌, ◌++◌, ◌∷◌, [], length, slice_get, None, IfNone, IfOk, IfSome};
-    ghost use Rattle.std.specs.List.{find, remove};
+    ghost use Rattle.std.specs.Prelude.{◌≡◌, ◌<◌, ◌++◌, ◌∷◌, [], length, IfOk};
+    ghost use Rattle.std.specs.List.{find};
     ghost use Rattle.listener_pair.specs.Pairs.{without_first};
     ghost use Rattle.listener_pair.specs.state.Window.{takes_by, without_passed};
 
@@ -114,9 +112,7 @@ impl Waiting {
 
 /// The index of the first waiting batch that may be paired with batch `x` of `side`.
 fn find_partner(waiting: &VecDeque<Placed>, side: Which, x: &Timed) -> Option<usize>
-    ensures found { IfSome result (λ i. find (takes_by side x.now) waiting.now.items ≡ slice_get waiting.now.items i) }
-    ensures left { IfSome result (λ i. without_first (takes_by side x.now) waiting.now.items ≡ remove waiting.now.items i) }
-    ensures none { IfNone result ((find (takes_by side x.now) waiting.now.items ≡ None) × (without_first (takes_by side x.now) waiting.now.items ≡ waiting.now.items)) }
+    ensures { FindsPartner (takes_by side x.now) waiting.now.items result }
 {
     for i in 0..waiting.len() {
         if fits(side, x, &waiting[i].batch) {

@@ -1,11 +1,18 @@
 -- What holds for two captures of one talker that keeps the rules.
-use Rattle.std.specs.Prelude.{◌≡◌, ◌⊎◌, ℕ, ◌*◌, ◌≤◌, Bool, true}
+use Rattle.std.specs.Prelude.{◌≡◌, ◌⊎◌, ℕ, ◌*◌, ◌≤◌, Any, Bool, true, List, [], Some, slice_get}
+use Rattle.std.specs.List.{AllByRecursion}
+use Rattle.pcap_frames.specs.Capture.{Record}
 use Rattle.sample_schedule.specs.Batches.{Presented, is_unit}
 use Rattle.stream_journal.specs.Journal.{Am824, DenseAaf, H264, Kind, SparseAaf}
 use Rattle.packet_journal.specs.Packets.{PacketJournal}
-use Rattle.listener.specs.Laws.{IsOfJournal, IsOfPacket}
+use Rattle.listener.specs.declared.plan.ListenPlan.{ListenPlan}
+use Rattle.listener.specs.Heard.{due_of, shown_of}
+use Rattle.listener.specs.Laws.{IsOfJournal, IsOfPacket, presented_of}
 use Rattle.listener_pair.specs.declared.placed.Placed.{Placed}
-use Rattle.listener_pair.specs.Pairs.{Paired}
+use Rattle.listener_pair.specs.Differences.{differences}
+use Rattle.listener_pair.specs.Merged.{Sided, known, merged}
+use Rattle.listener_pair.specs.Pairs.{Paired, pairs, unpaired}
+use Rattle.capture_pair.specs.Pairing.{HavePlan, PairState, known_by}
 
 -- the spacing of the batch's samples is 7/8 to 9/8 of the nominal spacing at this rate
 pub record HasPace (rate : ℕ) (batch : Presented) : Type 0 where
@@ -39,3 +46,29 @@ IsOfAnother by p number x = IsOfPacket by p number x.batch → ⊥
 -- the pair consists of these two batches, in either order
 abbrev pub IsPairOf : Presented → Presented → Paired → Type 0
 IsPairOf a b pair = ((pair.earlier.batch ≡ a) × (pair.later.batch ≡ b)) ⊎ ((pair.earlier.batch ≡ b) × (pair.later.batch ≡ a))
+
+-- No pair of the merged list differs. Each pair is of one packet or unit of the journal.
+pub record NeverDiffers (by : Bool) (p : PacketJournal) (list : List Sided) : Type 0 where
+  pub differ : differences list ≡ []
+  pub one : AllByRecursion (IsOneOf by p) (pairs list)
+
+-- Two lists of batches have no differences, and each pair is of one packet or unit of the journal. If both lists have a
+-- batch of packet or unit n, the two batches are a pair, and no batch without a pair is of packet or unit n.
+pub record PairUp (by : Bool) (p : PacketJournal) (xs ys : List Presented) : Type 0 where
+  pub differ : differences (merged xs ys) ≡ []
+  pub one : AllByRecursion (IsOneOf by p) (pairs (merged xs ys))
+  pub paired : (n i k : ℕ) (a b : Presented) → slice_get xs i ≡ Some a → slice_get ys k ≡ Some b
+      → IsOfPacket by p n a → IsOfPacket by p n b → Any (IsPairOf a b) (pairs (merged xs ys))
+  pub none_left : (n i k : ℕ) (a b : Presented) → slice_get xs i ≡ Some a → slice_get ys k ≡ Some b
+      → IsOfPacket by p n a → IsOfPacket by p n b → AllByRecursion (IsOfAnother by p n) (unpaired (merged xs ys))
+
+-- The known part of two captures has no differences, however far each capture was read. For each capture, the batches
+-- are all that are shown, or only those that are certain to be presented.
+pub record KnownNeverDiffers (plan : ListenPlan) (records others : List Record) : Type 0 where
+  pub pair : (pair : PairState) → HavePlan plan pair → differences (known_by pair records others) ≡ []
+  pub due_a : (ended_a ended_b : Bool)
+      → differences (known ended_a ended_b (merged (presented_of (due_of plan records)) (presented_of (shown_of plan others)))) ≡ []
+  pub due_b : (ended_a ended_b : Bool)
+      → differences (known ended_a ended_b (merged (presented_of (shown_of plan records)) (presented_of (due_of plan others)))) ≡ []
+  pub shown : (ended_a ended_b : Bool)
+      → differences (known ended_a ended_b (merged (presented_of (shown_of plan records)) (presented_of (shown_of plan others)))) ≡ []

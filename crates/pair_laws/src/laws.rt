@@ -1,27 +1,25 @@
 //! Laws of the pairs of two captures. Each law is a function whose contract states the law; a call does nothing.
 
-ghost use Rattle.std.specs.Prelude.{◌≡◌, ◌<◌, ◌≤◌, ◌++◌, [], ℕ, ℤ, Any, Bool, true, false, List, Some, length, slice_get, take};
+ghost use Rattle.std.specs.Prelude.{◌≡◌, ◌<◌, ◌≤◌, ◌++◌, [], ℕ, ℤ, Bool, true, false, List, Some, length, take};
 ghost use Rattle.std.specs.List.{AllByRecursion};
 ghost use Rattle.pcap_frames.specs.Capture.{Record};
 ghost use Rattle.packet_journal.specs.Packets.{IsConforming, PacketJournal};
 ghost use Rattle.sample_schedule.specs.Batches.{Presented};
 ghost use Rattle.listener.specs.declared.plan.ListenPlan.{ListenPlan};
 ghost use Rattle.listener.specs.Heard.{due_of, shown_of};
-ghost use Rattle.listener.specs.Laws.{HearsTalker, IsOfPacket, by_clock, presented_of};
+ghost use Rattle.listener.specs.Laws.{HearsTalker, by_clock, presented_of};
 ghost use Rattle.listener.specs.Listening.{is_closed};
 ghost use Rattle.listener_pair.specs.declared.difference.Which.TheVariants.{A, B};
-ghost use Rattle.listener_pair.specs.Differences.{counts_of, differences};
+ghost use Rattle.listener_pair.specs.Differences.{differences};
 ghost use Rattle.listener_pair.specs.Merged.{Sided, known, merged};
-ghost use Rattle.listener_pair.specs.Pairs.{pairs, unpaired};
 ghost use Rattle.capture_pair.specs.Pairing.{Continues, EndsAreClosed, HavePlan, PairState, StandsFor, known_by, wanted_by};
-ghost use Rattle.pair_laws.specs.Agreeing.{IsOfAnother, IsOneOf, IsPairOf, IsPresentedOfTalker};
-ghost use Rattle.pair_laws.specs.Beside.{IsPresentation};
+ghost use Rattle.pair_laws.specs.Agreeing.{IsPresentedOfTalker, KnownNeverDiffers, NeverDiffers, PairUp};
+ghost use Rattle.pair_laws.specs.Beside.{IsPresentation, NeverDiffersFromItself};
 
 /// A capture compared with itself never differs: each batch that a listener presents of the capture is paired with
 /// itself. The capture can hold anything, as long as each sequence number is a byte.
 pub fn a_capture_beside_itself_never_differs()
-    ensures differ { (list : List Presented) → IsPresentation list → differences (merged list list) ≡ [] }
-    ensures matched { (list : List Presented) → IsPresentation list → counts_of (merged list list) ≡ record { matched = length list; only_a = 0; only_b = 0; differ = 0 } }
+    ensures beside { (list : List Presented) → IsPresentation list → NeverDiffersFromItself list }
     ensures presented { (plan : ListenPlan) (records : List Record) → AllByRecursion (λ x. x.seq < 256) (presented_of (shown_of plan records)) → IsPresentation (presented_of (shown_of plan records)) }
 {}
 
@@ -33,24 +31,15 @@ pub fn a_capture_beside_itself_never_differs()
 /// captures present it. The law requires that both listeners use the clock or neither does. The two listeners may have
 /// different buffers, look-ahead and max transit times.
 pub fn captures_of_one_talker_never_differ()
-    ensures differ { (shift : ℤ) (p : PacketJournal) (plan other : ListenPlan) (records others : List Record) → HearsTalker shift p plan records → HearsTalker shift p other others → by_clock other ≡ by_clock plan
-        → differences (merged (presented_of (shown_of plan records)) (presented_of (shown_of other others))) ≡ [] }
-    ensures one { (shift : ℤ) (p : PacketJournal) (plan other : ListenPlan) (records others : List Record) → HearsTalker shift p plan records → HearsTalker shift p other others → by_clock other ≡ by_clock plan
-        → AllByRecursion (IsOneOf (by_clock plan) p) (pairs (merged (presented_of (shown_of plan records)) (presented_of (shown_of other others)))) }
-    ensures paired { (shift : ℤ) (p : PacketJournal) (plan other : ListenPlan) (records others : List Record) → HearsTalker shift p plan records → HearsTalker shift p other others → by_clock other ≡ by_clock plan → (n i k : ℕ) (a b : Presented)
-        → slice_get (presented_of (shown_of plan records)) i ≡ Some a → slice_get (presented_of (shown_of other others)) k ≡ Some b → IsOfPacket (by_clock plan) p n a → IsOfPacket (by_clock plan) p n b
-        → Any (IsPairOf a b) (pairs (merged (presented_of (shown_of plan records)) (presented_of (shown_of other others)))) }
-    ensures none_left { (shift : ℤ) (p : PacketJournal) (plan other : ListenPlan) (records others : List Record) → HearsTalker shift p plan records → HearsTalker shift p other others → by_clock other ≡ by_clock plan → (n i k : ℕ) (a b : Presented)
-        → slice_get (presented_of (shown_of plan records)) i ≡ Some a → slice_get (presented_of (shown_of other others)) k ≡ Some b → IsOfPacket (by_clock plan) p n a → IsOfPacket (by_clock plan) p n b
-        → AllByRecursion (IsOfAnother (by_clock plan) p n) (unpaired (merged (presented_of (shown_of plan records)) (presented_of (shown_of other others)))) }
+    ensures { (shift : ℤ) (p : PacketJournal) (plan other : ListenPlan) (records others : List Record) → HearsTalker shift p plan records → HearsTalker shift p other others → by_clock other ≡ by_clock plan
+        → PairUp (by_clock plan) p (presented_of (shown_of plan records)) (presented_of (shown_of other others)) }
 {}
 
 /// If all batches of both sides are of one talker, no pair differs: each pair is of one packet or unit. The batches may
 /// be all that listeners present, or the part that is known while the captures continue. If a capture is of the talker,
 /// a listener that reads the capture presents only batches of the talker.
 pub fn batches_of_one_talker_never_differ()
-    ensures differ { (shift : ℤ) (by : Bool) (p : PacketJournal) (list : List Sided) → IsConforming shift p → AllByRecursion (λ x. IsPresentedOfTalker by p x.batch) list → differences list ≡ [] }
-    ensures one { (shift : ℤ) (by : Bool) (p : PacketJournal) (list : List Sided) → IsConforming shift p → AllByRecursion (λ x. IsPresentedOfTalker by p x.batch) list → AllByRecursion (IsOneOf by p) (pairs list) }
+    ensures list { (shift : ℤ) (by : Bool) (p : PacketJournal) (list : List Sided) → IsConforming shift p → AllByRecursion (λ x. IsPresentedOfTalker by p x.batch) list → NeverDiffers by p list }
     ensures presented { (shift : ℤ) (p : PacketJournal) (plan : ListenPlan) (records : List Record) → HearsTalker shift p plan records → AllByRecursion (IsPresentedOfTalker (by_clock plan) p) (presented_of (shown_of plan records)) }
 {}
 
@@ -81,11 +70,5 @@ pub fn what_a_fault_leaves_is_known()
 /// was read. For each capture, the batches can be all batches that are shown, or only the batches that are certain to
 /// be presented, whatever follows.
 pub fn what_is_known_of_one_talker_never_differs()
-    ensures pair { (shift : ℤ) (p : PacketJournal) (plan : ListenPlan) (records others : List Record) (pair : PairState) → HearsTalker shift p plan records → HearsTalker shift p plan others → HavePlan plan pair → differences (known_by pair records others) ≡ [] }
-    ensures due_a { (shift : ℤ) (p : PacketJournal) (plan : ListenPlan) (records others : List Record) (ended_a ended_b : Bool) → HearsTalker shift p plan records → HearsTalker shift p plan others
-        → differences (known ended_a ended_b (merged (presented_of (due_of plan records)) (presented_of (shown_of plan others)))) ≡ [] }
-    ensures due_b { (shift : ℤ) (p : PacketJournal) (plan : ListenPlan) (records others : List Record) (ended_a ended_b : Bool) → HearsTalker shift p plan records → HearsTalker shift p plan others
-        → differences (known ended_a ended_b (merged (presented_of (shown_of plan records)) (presented_of (due_of plan others)))) ≡ [] }
-    ensures shown { (shift : ℤ) (p : PacketJournal) (plan : ListenPlan) (records others : List Record) (ended_a ended_b : Bool) → HearsTalker shift p plan records → HearsTalker shift p plan others
-        → differences (known ended_a ended_b (merged (presented_of (shown_of plan records)) (presented_of (shown_of plan others)))) ≡ [] }
+    ensures { (shift : ℤ) (p : PacketJournal) (plan : ListenPlan) (records others : List Record) → HearsTalker shift p plan records → HearsTalker shift p plan others → KnownNeverDiffers plan records others }
 {}

@@ -1,8 +1,9 @@
 -- Only private functions and proofs use these definitions. A listener that is fed a capture's bytes,
 -- in pieces of any length.
-use Rattle.std.specs.Prelude.{◌≡◌, ◌≤◌, ◌+◌, ◌++◌, ℕ, false, true, List, length, None, OnErr, OnOk, Result}
+use Rattle.std.specs.Prelude.{◌≡◌, ◌≤◌, ◌+◌, ◌++◌, ℕ, false, true, List, length, Option, None, OnErr, OnOk, Result}
 use mathlib.Core.List.{IsPrefix}
-use Rattle.pcap_frames.specs.Capture.{Record}
+use Rattle.avtp_base.specs.declared.refusal.Refusal.{Refusal}
+use Rattle.pcap_frames.specs.Capture.{Record, first_refusal}
 use Rattle.pcap_frames.specs.Reading.{HasRead, Reading, taken}
 use Rattle.sample_schedule.specs.declared.shown.Shown.{Shown}
 use Rattle.listener.specs.Listening.{IsIdle, ListenState, StandsFor as RecordsStandFor, is_closed}
@@ -31,6 +32,13 @@ pub record FeedsPiece (piece : List ℕ) (list list' : List Shown) (fed fed' : F
   pub given : (bytes : List ℕ) → HasGiven bytes list fed → HasGiven (bytes ++ piece) list' fed'
   pub plan : fed'.listener.plan ≡ fed.listener.plan
   pub ready : CanFeed fed'
+
+-- The capture has ended, and `refusal` is its first refusal. The list of returned items stays valid.
+pub record Stops (fed fed' : Feeding) (refusal : Option Refusal) : Type 0 where
+  pub given : (bytes : List ℕ) (list : List Shown) → HasGiven bytes list fed → HasGiven bytes list fed'
+  pub refused : (bytes : List ℕ) (given : ℕ) → StandsFor bytes given fed → refusal ≡ first_refusal bytes
+  pub plan : fed'.listener.plan ≡ fed.listener.plan
+  pub ended : is_ended fed' ≡ true
 
 -- ---- between two calls
 

@@ -1,6 +1,6 @@
 -- Only private functions and proofs use these definitions. The units of a stream between two
 -- deliveries, and the items that wait to be judged.
-use Rattle.std.specs.Prelude.{◌≡◌, ℕ, ℤ, ⊤, List, [], ◌∷◌, ◌++◌, All, map, Option, Some, None, IfSome}
+use Rattle.std.specs.Prelude.{◌≡◌, ℕ, ℤ, ⊤, List, [], ◌∷◌, ◌++◌, All, map, Option, Some, None, IfNone, IfSome}
 use Rattle.std.specs.Option.{option_to_list}
 use Rattle.cvf_format.specs.Assembly.{StandsFor}
 use Rattle.cvf_format.specs.Cvf.{Cvf}
@@ -27,13 +27,24 @@ pub record Cuts (item : Item) (old new : Gathered) : Type 0 where
   pub taken : new.taken ≡ 0
   pub own : new.own ≡ Some item
 
+-- The units before the first delivery: no item is queued.
+pub record Begins (u : Gathered) : Type 0 where
+  pub stands : HasUnits [] u
+  pub none : left u ≡ []
+
+-- The first of the queued items, if any, is `answer`; the other items stay queued.
+pub record GivesItem (old new : Gathered) (answer : Option Item) : Type 0 where
+  pub stands : (ds : List Delivery) → HasUnits ds old → HasUnits ds new
+  pub none : IfNone answer (left new ≡ [])
+  pub item : IfSome answer IsItem
+  pub left : left old ≡ option_to_list answer ++ left new
+
 -- A delivery ends the current unit; the delivery's own item is `item`. The first resulting item, if any, is `answer`;
 -- the other items are queued.
 pub record CutsFirst (item : Item) (old new : Gathered) (answer : Option Item) : Type 0 where
   pub between : Gathered
   pub cuts : Cuts item old between
-  pub first : left between ≡ option_to_list answer ++ left new
-  pub stands : (ds : List Delivery) → HasUnits ds between → HasUnits ds new
+  pub rest : GivesItem between new answer
 
 -- After the delivery `d`, the state `new` is that of all deliveries so far, and holds the items that `d` yields.
 pub record Gives (ds : List Delivery) (d : Delivery) (new : Gathered) : Type 0 where

@@ -89,14 +89,6 @@ pub record HasTaken {A B : Type 0} (d : Delivery) (units_old units_new : Gathere
   pub plan : new.plan ≡ old.plan
   pub opened : new.closed ≡ false
 
--- The next item that is shown of the records so far is `item`. If it is `None`, all that is due was returned.
-pub record GivesNext (old new : ListenState) (item : Option Shown) : Type 0 where
-  pub given : (records : List Record) (given : ℕ) → StandsFor records given old → item ≡ slice_get (out old records) given
-  pub stands : (records : List Record) (given : ℕ) → StandsFor records given old → StandsFor records (given + length (option_to_list item)) new
-  pub idle : IfNone item (IsIdle new)
-  pub keeps : Keeps old new
-  pub less : work new + length (option_to_list item) ≤ work old
-
 -- The invariant of every listener. There is a list of records that leads to the listener's state. The items that were
 -- returned are a prefix of what is shown of these records.
 pub record IsSound (listener : ListenState) : Type 0 where

@@ -3,7 +3,7 @@ use Rattle.std.specs.Prelude.{ℕ, Bool, false, List, Option, Some, None}
 use Rattle.avtp_header.specs.declared.header.Peeked.{Peeked}
 use Rattle.packet_journal.specs.Deliveries.{Delivery, clock_kinds, is_wanted}
 use Rattle.listener.specs.declared.delivery.AvtpPacket.{AvtpPacket}
-use Rattle.listener.specs.declared.delivery.DeliveryView.{DeliveryView}
+use Rattle.listener.specs.declared.delivery_view.DeliveryView.{DeliveryView}
 
 -- An AVTP packet and its first fields, without the packet's location in memory.
 pub record Found : Type 0 where

@@ -1,7 +1,8 @@
 -- Only private functions and proofs use these definitions. The batches that wait for a partner, and
 -- what the next batch changes.
-use Rattle.std.specs.Prelude.{◌≡◌, ℕ, ◌+◌, ◌-◌, ◌^◌, ◌<◌, nat_le, min, Bool, true, false, if◌then◌else◌, List, [], ◌∷◌, ◌++◌, length, Option, None, Some, option_map, is_some, int_lt}
-use Rattle.std.specs.List.{find}
+use Rattle.std.specs.Prelude.{◌≡◌, ℕ, ◌+◌, ◌-◌, ◌^◌, ◌<◌, nat_le, min, Bool, true, false, if◌then◌else◌, List, [], ◌∷◌, ◌++◌, length, slice_get, Option, None, Some, IfNone, IfSome, option_map, is_some, int_lt}
+use Rattle.std.specs.List.{find, remove}
+use Rattle.std.specs.Option.{option_to_list}
 use Rattle.sample_schedule.specs.Batches.{Presented}
 use Rattle.sample_schedule.specs.Verdicts.{first_instant}
 use Rattle.listener_pair.specs.declared.difference.Difference.{Difference}
@@ -11,8 +12,8 @@ use Rattle.listener_pair.specs.declared.difference.Which.TheVariants.{A, B}
 use Rattle.listener_pair.specs.declared.placed.Entered.{Entered}
 use Rattle.listener_pair.specs.declared.placed.Placed.{Placed}
 use Rattle.listener_pair.specs.Pairs.{Paired, fits, without_first}
-use Rattle.listener_pair.specs.Differences.{difference_of}
-use Rattle.listener_pair.specs.Matching.{MatchingState, wanted}
+use Rattle.listener_pair.specs.Differences.{difference_of, differences}
+use Rattle.listener_pair.specs.Matching.{MatchingState, StandsFor, known_of, nexts_left, wanted}
 
 -- the next batch of a side, with its position
 abbrev pub placed : ℕ → Which → Presented → Placed
@@ -25,6 +26,12 @@ takes_by side batch y = fits side batch y.batch
 -- batch x may be paired with batch y, which waits on the other side
 abbrev pub takes : Placed → Placed → Bool
 takes x = takes_by x.side x.batch
+
+-- The first waiting batch that passes the test is at index `at`. If `at` is `None`, no waiting batch passes the test.
+pub record FindsPartner (test : Placed → Bool) (waiting : List Placed) (at : Option ℕ) : Type 0 where
+  pub found : IfSome at (λ i. find test waiting ≡ slice_get waiting i)
+  pub left : IfSome at (λ i. without_first test waiting ≡ remove waiting i)
+  pub none : IfNone at ((find test waiting ≡ None) × (without_first test waiting ≡ waiting))
 
 -- the waiting batches; the first one is left out if it is not among the 512 batches before position `place`
 abbrev pub without_passed : ℕ → List Placed → List Placed
@@ -127,3 +134,18 @@ pub record Steps (side : Which) (batch : Presented) (old new : MatchingState) (p
   pub place : new.place ≡ risen old.place
   pub enters : EntersSide side (record { place = old.place; side = side; batch = batch }) new.place old new pair
   pub counts : new.counts ≡ counted side pair old.counts
+
+-- The next batch of a side was paired or began to wait, as `entered` tells. The place and the counts are unchanged.
+pub record HasEntered (side : Which) (old new : MatchingState) (entered : Entered) : Type 0 where
+  pub enters : IfSome (next_of side old)
+      (λ batch. EntersSide side (placed old.place side batch) (risen old.place) old new (made_on side (placed old.place side batch) old))
+  pub tells : IfSome (next_of side old) (λ batch. Tells (made_on side (placed old.place side batch) old) entered)
+  pub same : new ≡ record (without_next side old) { waiting_a = new.waiting_a; waiting_b = new.waiting_b }
+
+-- The next batch of the known part was worked through. If it made a pair that differs, `difference` is the difference.
+pub record Advances (old new : MatchingState) (difference : Option Difference) : Type 0 where
+  pub stands : (xs ys : List Presented) (given : ℕ) → StandsFor xs ys given old → StandsFor xs ys (given + length (option_to_list difference)) new
+  pub first : IfSome difference
+      (λ d. (xs ys : List Presented) (given : ℕ) → StandsFor xs ys given old → slice_get (differences (known_of old xs ys)) given ≡ Some d)
+  pub ended : (new.ended_a ≡ old.ended_a) × (new.ended_b ≡ old.ended_b)
+  pub less : nexts_left new < nexts_left old

@@ -32,7 +32,7 @@ returns-then-delivery-eq-CRF c =
       judges = λ ds entries given has j.
           subst (λ (l : List Entry). Judges (entries ++ l) given c.step_clock.new.self c.args.units.now) (sym (clock_given ds d c.if-delivery-eq-CRF.true))
           (judges_entry entries given c.args.judge.now c.step_clock.new.self c.args.units.now (OfClock d.arrival (clock_row d)) c.requires.ready.none
-          (λ es n s. rw (← c.clock_points.ensures.exact) (rw (arrival_kept c.args.delivery.now.arrival c.requires.arrival) at (c.step_clock.ensures.stands _ es n s))) j);
+          (λ es n s. rw (← c.clock_points.ensures.exact) (rw (arrival_kept c.args.delivery.now.arrival c.args.delivery.now.timely) at (c.step_clock.ensures.stands _ es n s))) j);
       same = search rules;
       plan = search rules;
       opened = search rules;

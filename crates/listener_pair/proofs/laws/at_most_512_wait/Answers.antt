@@ -7,8 +7,8 @@ use Rattle.listener_pair.proofs.Counting.{ascending-unpaired}
 use Rattle.listener_pair.proofs.Windows.{few-wait}
 use Rattle.listener_pair.proofs.laws.at_most_512_wait.Goals as goal
 
-pub returns-clause-a : goal.returns-clause-a
-returns-clause-a c xs ys given m s = subst (λ (l : List Placed). length l ≤ 512) (sym s.waiting_a) (few-wait A (length s.done) (unpaired s.done) (ascending-unpaired s.done))
-
-pub returns-clause-b : goal.returns-clause-b
-returns-clause-b c xs ys given m s = subst (λ (l : List Placed). length l ≤ 512) (sym s.waiting_b) (few-wait B (length s.done) (unpaired s.done) (ascending-unpaired s.done))
+pub returns : goal.returns
+returns c xs ys given m s = record {
+  a = subst (λ (l : List Placed). length l ≤ 512) (sym s.waiting_a) (few-wait A (length s.done) (unpaired s.done) (ascending-unpaired s.done));
+  b = subst (λ (l : List Placed). length l ≤ 512) (sym s.waiting_b) (few-wait B (length s.done) (unpaired s.done) (ascending-unpaired s.done));
+}

@@ -5,8 +5,5 @@ use Rattle.listener_pair.proofs.Counting.{count-all}
 use Rattle.listener_pair.proofs.Sorting.{length-a, length-b}
 use Rattle.listener_pair.proofs.laws.counts_add_up.Goals as goal
 
-pub returns-clause-a : goal.returns-clause-a
-returns-clause-a c xs ys = count-all A (merged xs ys) ∙ length-a xs ys
-
-pub returns-clause-b : goal.returns-clause-b
-returns-clause-b c xs ys = count-all B (merged xs ys) ∙ length-b xs ys
+pub returns : goal.returns
+returns c xs ys = record { a = count-all A (merged xs ys) ∙ length-a xs ys; b = count-all B (merged xs ys) ∙ length-b xs ys }

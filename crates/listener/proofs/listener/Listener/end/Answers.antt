@@ -1,4 +1,4 @@
-use Rattle.std.proofs.Common.{◌≡◌, None, sym, ap, ◌∙◌, subst, arith}
+use Rattle.std.proofs.Common.{◌≡◌, None, rules, sym, ap, ◌∙◌, subst, arith}
 use Rattle.std.specs.Prelude.{slice_get}
 use Rattle.pcap_frames.specs.Capture.{whole_records}
 use Rattle.listener.specs.Feeding.{Feeding, StandsFor}
@@ -25,14 +25,20 @@ invariant_of-self c =
       spent = λ memory. absurd (let no = c.if-self.false in cc);
     }
 
-pub returns-clause-stands : goal.returns-clause-stands
-returns-clause-stands c bytes given stands =
-    let st = subst (StandsFor bytes given) (sym c.self.view_is) stands in
-    let quiet : c.self.inside.next ≡ None = ap (λ (f : Feeding). f.next) c.self.view_is ∙ c.requires.quiet in
-    let here = c.close.ensures.stands (whole_records bytes) given (stands_quiet bytes given _ st quiet) in
-    record {
-      read = st.read;
-      stands = c.next_out.ensures.stands (whole_records bytes) given here;
-      next = c.next_out.ensures.given (whole_records bytes) given here
-          ∙ ap (λ o. slice_get o given) (sym (out_same c.close.new.self c.next_out.new.self (whole_records bytes) c.next_out.ensures.keeps.plan c.next_out.ensures.keeps.closed));
-    }
+pub returns : goal.returns
+returns c = record {
+  stands = λ bytes given stands.
+      let st = subst (StandsFor bytes given) (sym c.self.view_is) stands in
+      let quiet : c.self.inside.next ≡ None = ap (λ (f : Feeding). f.next) c.self.view_is ∙ c.requires.quiet in
+      let here = c.close.ensures.stands (whole_records bytes) given (stands_quiet bytes given _ st quiet) in
+      record {
+        read = st.read;
+        stands = c.next_out.ensures.stands (whole_records bytes) given here;
+        next = c.next_out.ensures.given (whole_records bytes) given here
+            ∙ ap (λ o. slice_get o given) (sym (out_same c.close.new.self c.next_out.new.self (whole_records bytes) c.next_out.ensures.keeps.plan c.next_out.ensures.keeps.closed));
+      };
+  refused = search rules;
+  ended = search rules;
+  lasting = search rules;
+  plan = search rules;
+}

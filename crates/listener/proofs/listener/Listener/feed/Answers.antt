@@ -1,4 +1,4 @@
-use Rattle.std.proofs.Common.{◌≡◌, ◌++◌, Some, None, length, take, sym, subst, ap, ◌∙◌, arith}
+use Rattle.std.proofs.Common.{◌≡◌, ◌++◌, Some, None, length, take, rules, sym, subst, ap, ◌∙◌, arith}
 use Rattle.std.proofs.lemmas.List.{length-take-le}
 use Rattle.avtp_base.specs.declared.refusal.Refusal.{Refusal}
 use Rattle.pcap_frames.specs.Capture.{whole_records}
@@ -40,26 +40,33 @@ invariant_of-self c =
       spent = λ memory. absurd (let no = c.if-self.false in cc);
     }
 
-pub returns-in-Ok-clause-nothing : goal.returns-in-Ok-clause-nothing
-returns-in-Ok-clause-nothing c =
-    let some = lent_some c.self.inside.reader c.args.piece.now c.in-Some.size c.in-Some.ensures.within c.in-Some.ensures.next in
-    let quiet = not_some c.self.inside.next (sym c.is_some.ensures ∙ c.if-is_some.false) in
-    let quiet_now : c.args.self.now.next ≡ None = ap (λ (f : Feeding). f.next) (sym c.self.view_is) ∙ quiet in
-    lent_nothing c.in-Some.size c.args.piece.now c.args.self.now.next some c.in-Some.ensures.within quiet_now
-
-pub returns-in-Ok-clause-stands : goal.returns-in-Ok-clause-stands
-returns-in-Ok-clause-stands c bytes given stands =
-    let st = subst (StandsFor bytes given) (sym c.self.view_is) stands in
-    let quiet = not_some c.self.inside.next (sym c.is_some.ensures ∙ c.if-is_some.false) in
-    let heard = c.in-Ok.ensures.hears.heard bytes given (heard_here bytes given _ st c.if-self.false quiet) in
-    stands_fed (bytes ++ take c.in-Some.size c.args.piece.now) given c.take_lent.new.reader c.take_lent.new.listener c.put_next.new.self c.put_next.new.next c.self.inside.out_of_memory heard c.in-Ok.ensures.passed.free
-    c.put_next.ensures.given c.put_next.ensures.stands c.put_next.ensures.keeps.plan c.put_next.ensures.keeps.closed
-
-pub returns-in-Ok-clause-uncertain : goal.returns-in-Ok-clause-uncertain
-returns-in-Ok-clause-uncertain c quiet bytes given stands =
-    let st = subst (StandsFor bytes given) (sym c.self.view_is) stands in
-    let accepted = c.in-Ok.ensures.passed.refusal ∙ holds_accepted _ _ _ _ c.in-Some.ensures.next.whole in
-    uncertain c.take_lent.new.reader (bytes ++ take c.in-Some.size c.args.piece.now) _ accepted (c.in-Ok.ensures.passed.read bytes (whole_records bytes) (st.read c.if-self.false))
+pub returns-in-Ok : goal.returns-in-Ok
+returns-in-Ok c = record {
+  within = search rules;
+  nothing =
+      let some = lent_some c.self.inside.reader c.args.piece.now c.in-Some.size c.in-Some.ensures.within c.in-Some.ensures.next in
+      let quiet = not_some c.self.inside.next (sym c.is_some.ensures ∙ c.if-is_some.false) in
+      let quiet_now : c.args.self.now.next ≡ None = ap (λ (f : Feeding). f.next) (sym c.self.view_is) ∙ quiet in
+      lent_nothing c.in-Some.size c.args.piece.now c.args.self.now.next some c.in-Some.ensures.within quiet_now;
+  stands = λ bytes given stands.
+      let st = subst (StandsFor bytes given) (sym c.self.view_is) stands in
+      let quiet = not_some c.self.inside.next (sym c.is_some.ensures ∙ c.if-is_some.false) in
+      let heard = c.in-Ok.ensures.hears.heard bytes given (heard_here bytes given _ st c.if-self.false quiet) in
+      stands_fed (bytes ++ take c.in-Some.size c.args.piece.now) given c.take_lent.new.reader c.take_lent.new.listener c.put_next.new.self c.put_next.new.next c.self.inside.out_of_memory heard c.in-Ok.ensures.passed.free
+      c.put_next.ensures.given c.put_next.ensures.stands c.put_next.ensures.keeps.plan c.put_next.ensures.keeps.closed;
+  uncertain = λ quiet bytes given stands.
+      let st = subst (StandsFor bytes given) (sym c.self.view_is) stands in
+      let accepted = c.in-Ok.ensures.passed.refusal ∙ holds_accepted _ _ _ _ c.in-Some.ensures.next.whole in
+      uncertain c.take_lent.new.reader (bytes ++ take c.in-Some.size c.args.piece.now) _ accepted (c.in-Ok.ensures.passed.read bytes (whole_records bytes) (st.read c.if-self.false));
+  refused = search rules;
+  memory = search rules;
+  lasting = search rules;
+  stopped = search rules;
+  plan = search rules;
+  «open» = search rules;
+  bounded = search rules;
+  taken = search rules;
+}
 
 -- ---- a record that the reader holds
 
@@ -70,22 +77,6 @@ take_held-requires-clause-few c some =
     let took = held_some c.self.inside.reader c.feed.new.self sound.bytes c.args.piece.now c.in-Ok-feed.taken read c.in-Ok-feed.ensures.read some in
     let counted = sound.counted (accepted c.self.inside.reader.refusal c.in-Ok-feed.taken c.in-Ok-feed.ensures.lasting) in
     omega (arith, counted, took, c.in-Ok-feed.ensures.within, c.requires.bounded, ap (λ (f : Feeding). taken f.reader) c.self.view_is)
-
-pub returns-in-Ok-take_held-clause-nothing : goal.returns-in-Ok-take_held-clause-nothing
-returns-in-Ok-take_held-clause-nothing c =
-    let sound = c.self.invariant in
-    let free = none_held c.self.inside.reader sound.bytes (sound.stands.read c.if-self.false) in
-    let quiet = not_some c.self.inside.next (sym c.is_some.ensures ∙ c.if-is_some.false) in
-    let quiet_now : c.args.self.now.next ≡ None = ap (λ (f : Feeding). f.next) (sym c.self.view_is) ∙ quiet in
-    other_quiet (c.in-Ok-feed.taken ≡ 0) (length c.args.piece.now ≡ 0) (held c.self.inside.reader) c.args.self.now.next free quiet_now c.in-Ok-feed.ensures.nothing
-
-pub returns-in-Ok-take_held-clause-stands : goal.returns-in-Ok-take_held-clause-stands
-returns-in-Ok-take_held-clause-stands c bytes given stands =
-    let st = subst (StandsFor bytes given) (sym c.self.view_is) stands in
-    let quiet = not_some c.self.inside.next (sym c.is_some.ensures ∙ c.if-is_some.false) in
-    let heard = c.in-Ok-take_held.ensures.hears.heard (bytes ++ take c.in-Ok-feed.taken c.args.piece.now) given (heard_on bytes (take c.in-Ok-feed.taken c.args.piece.now) given _ c.feed.new.self st c.if-self.false quiet c.in-Ok-feed.ensures.read) in
-    stands_fed (bytes ++ take c.in-Ok-feed.taken c.args.piece.now) given c.take_held.new.reader c.take_held.new.listener c.put_next-in-Ok-take_held.new.self c.put_next-in-Ok-take_held.new.next c.self.inside.out_of_memory heard c.in-Ok-take_held.ensures.free
-    c.put_next-in-Ok-take_held.ensures.given c.put_next-in-Ok-take_held.ensures.stands c.put_next-in-Ok-take_held.ensures.keeps.plan c.put_next-in-Ok-take_held.ensures.keeps.closed
 
 pub invariant_of-self-in-Ok-take_held : goal.invariant_of-self-in-Ok-take_held
 invariant_of-self-in-Ok-take_held c =
@@ -105,6 +96,32 @@ invariant_of-self-in-Ok-take_held c =
       spent = λ memory. absurd (let no = c.if-self.false in cc);
     }
 
+pub returns-in-Ok-take_held : goal.returns-in-Ok-take_held
+returns-in-Ok-take_held c = record {
+  within = search rules;
+  nothing =
+      let sound = c.self.invariant in
+      let free = none_held c.self.inside.reader sound.bytes (sound.stands.read c.if-self.false) in
+      let quiet = not_some c.self.inside.next (sym c.is_some.ensures ∙ c.if-is_some.false) in
+      let quiet_now : c.args.self.now.next ≡ None = ap (λ (f : Feeding). f.next) (sym c.self.view_is) ∙ quiet in
+      other_quiet (c.in-Ok-feed.taken ≡ 0) (length c.args.piece.now ≡ 0) (held c.self.inside.reader) c.args.self.now.next free quiet_now c.in-Ok-feed.ensures.nothing;
+  stands = λ bytes given stands.
+      let st = subst (StandsFor bytes given) (sym c.self.view_is) stands in
+      let quiet = not_some c.self.inside.next (sym c.is_some.ensures ∙ c.if-is_some.false) in
+      let heard = c.in-Ok-take_held.ensures.hears.heard (bytes ++ take c.in-Ok-feed.taken c.args.piece.now) given (heard_on bytes (take c.in-Ok-feed.taken c.args.piece.now) given _ c.feed.new.self st c.if-self.false quiet c.in-Ok-feed.ensures.read) in
+      stands_fed (bytes ++ take c.in-Ok-feed.taken c.args.piece.now) given c.take_held.new.reader c.take_held.new.listener c.put_next-in-Ok-take_held.new.self c.put_next-in-Ok-take_held.new.next c.self.inside.out_of_memory heard c.in-Ok-take_held.ensures.free
+      c.put_next-in-Ok-take_held.ensures.given c.put_next-in-Ok-take_held.ensures.stands c.put_next-in-Ok-take_held.ensures.keeps.plan c.put_next-in-Ok-take_held.ensures.keeps.closed;
+  uncertain = search rules;
+  refused = search rules;
+  memory = search rules;
+  lasting = search rules;
+  stopped = search rules;
+  plan = search rules;
+  «open» = search rules;
+  bounded = search rules;
+  taken = search rules;
+}
+
 pub invariant_of-self-in-Err-feed : goal.invariant_of-self-in-Err-feed
 invariant_of-self-in-Err-feed c =
     let sound = c.self.invariant in
@@ -117,14 +134,24 @@ invariant_of-self-in-Err-feed c =
       spent = sound.spent;
     }
 
-pub returns-in-Err-feed-clause-stands : goal.returns-in-Err-feed-clause-stands
-returns-in-Err-feed-clause-stands c bytes given stands =
-    let st = subst (StandsFor bytes given) (sym c.self.view_is) stands in
-    stands_refused bytes c.args.piece.now given _ c.feed.new.self c.in-Err-feed.refusal st c.if-self.false c.in-Err-feed.ensures.stopped c.in-Err-feed.ensures.stays_refused
-
-pub returns-in-Err-feed-clause-refused : goal.returns-in-Err-feed-clause-refused
-returns-in-Err-feed-clause-refused c refusal same bytes more given stands =
-    let st = subst (StandsFor bytes given) (sym c.self.view_is) stands in
-    let one : c.in-Err-feed.refusal ≡ refusal = cc in
-    let first = (certain_is _ _ (c.in-Err-feed.ensures.refused bytes more (whole_records bytes) (st.read c.if-self.false)).certain).0 in
-    first ∙ ap (λ (r : Refusal). Some r) one
+pub returns-in-Err-feed : goal.returns-in-Err-feed
+returns-in-Err-feed c = record {
+  within = search rules;
+  nothing = search rules;
+  stands = λ bytes given stands.
+      let st = subst (StandsFor bytes given) (sym c.self.view_is) stands in
+      stands_refused bytes c.args.piece.now given _ c.feed.new.self c.in-Err-feed.refusal st c.if-self.false c.in-Err-feed.ensures.stopped c.in-Err-feed.ensures.stays_refused;
+  uncertain = search rules;
+  refused = λ refusal same bytes more given stands.
+      let st = subst (StandsFor bytes given) (sym c.self.view_is) stands in
+      let one : c.in-Err-feed.refusal ≡ refusal = cc in
+      let first = (certain_is _ _ (c.in-Err-feed.ensures.refused bytes more (whole_records bytes) (st.read c.if-self.false)).certain).0 in
+      first ∙ ap (λ (r : Refusal). Some r) one;
+  memory = search rules;
+  lasting = search rules;
+  stopped = search rules;
+  plan = search rules;
+  «open» = search rules;
+  bounded = search rules;
+  taken = search rules;
+}

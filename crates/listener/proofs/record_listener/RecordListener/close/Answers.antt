@@ -1,4 +1,4 @@
-use Rattle.std.proofs.Common.{refl, sym, subst, ap, ◌∙◌}
+use Rattle.std.proofs.Common.{refl, rules, sym, subst, ap, ◌∙◌}
 use Rattle.listener.specs.Gathering.{left}
 use Rattle.listener.specs.Listening.{ListenState, StandsFor, is_closed}
 use Rattle.listener.proofs.Listened.{stands_closed}
@@ -17,7 +17,13 @@ invariant_of-self c =
       λ rests. absurd cc,
     )
 
-pub returns-clause-stands : goal.returns-clause-stands
-returns-clause-stands c records given stands =
-    let st = subst (StandsFor records given) (sym c.self.view_is) stands in
-    stands_closed records given _ _ st (ap is_closed c.self.view_is ∙ c.requires.open) refl refl refl (ap (λ (l : ListenState). left l.units) c.self.view_is ∙ c.requires.idle.none) c.end.ensures.gives refl
+pub returns : goal.returns
+returns c = record {
+  stands = λ records given stands.
+      let st = subst (StandsFor records given) (sym c.self.view_is) stands in
+      stands_closed records given _ _ st (ap is_closed c.self.view_is ∙ c.requires.open) refl refl refl (ap (λ (l : ListenState). left l.units) c.self.view_is ∙ c.requires.idle.none) c.end.ensures.gives refl;
+  plan = search rules;
+  frames = search rules;
+  closed = search rules;
+  work = search rules;
+}

@@ -1,4 +1,4 @@
-use Rattle.std.proofs.Common.{◌≡◌, ◌+◌, false, Option, Some, None, refl, sym, subst, ap, ◌∙◌, arith, length}
+use Rattle.std.proofs.Common.{◌≡◌, ◌+◌, false, Option, Some, None, refl, rules, sym, subst, ap, ◌∙◌, arith, length}
 use Rattle.std.specs.Prelude.{slice_get}
 use Rattle.std.specs.Option.{option_to_list}
 use Rattle.sample_schedule.specs.declared.shown.Shown.{Shown}
@@ -16,15 +16,27 @@ next_shown-next-requires c =
       few = omega (arith, taken_few sound.records sound.given _ sound.stands, sound.few);
     }
 
-pub returns-then-self-clause-given : goal.returns-then-self-clause-given
-returns-then-self-clause-given c records given stands =
-    let st = subst (StandsFor records given) (sym c.self.view_is) stands in
-    subst (λ (l : ListenState). None ≡ slice_get (out l records) given) c.self.view_is (nothing_out records given _ st (c.self.invariant.2 c.if-self.true))
+pub returns-then-self : goal.returns-then-self
+returns-then-self c = record {
+  given = λ records given stands.
+      let st = subst (StandsFor records given) (sym c.self.view_is) stands in
+      subst (λ (l : ListenState). None ≡ slice_get (out l records) given) c.self.view_is (nothing_out records given _ st (c.self.invariant.2 c.if-self.true));
+  stands = search rules;
+  idle = search rules;
+  keeps = search rules;
+  less = search rules;
+}
 
-pub returns-in-None-clause-given : goal.returns-in-None-clause-given
-returns-in-None-clause-given c records given stands =
-    let st = subst (StandsFor records given) (sym c.self.view_is) stands in
-    subst (λ (l : ListenState). c.next_shown-next.result ≡ slice_get (out l records) given) c.self.view_is (given_out records given _ c.next_shown-next.result st (c.next_shown-next.ensures.given _ given st.judges))
+pub returns-in-None : goal.returns-in-None
+returns-in-None c = record {
+  given = λ records given stands.
+      let st = subst (StandsFor records given) (sym c.self.view_is) stands in
+      subst (λ (l : ListenState). c.next_shown-next.result ≡ slice_get (out l records) given) c.self.view_is (given_out records given _ c.next_shown-next.result st (c.next_shown-next.ensures.given _ given st.judges));
+  stands = search rules;
+  idle = search rules;
+  keeps = search rules;
+  less = search rules;
+}
 
 pub with_shown-self-inside-requires : goal.with_shown-self-inside-requires
 with_shown-self-inside-requires c =
@@ -49,23 +61,23 @@ invariant_of-self c =
       λ rests. absurd (let both = sym rests ∙ awake in cc),
     )
 
-pub returns-in-Some-clause-given : goal.returns-in-Some-clause-given
-returns-in-Some-clause-given c records given stands =
-    let st = subst (StandsFor records given) (sym c.self.view_is) stands in
-    subst (λ (l : ListenState). c.next_shown-next.result ≡ slice_get (out l records) given) c.self.view_is (given_out records given _ c.next_shown-next.result st (c.next_shown-next.ensures.given _ given st.judges))
-
-pub returns-in-Some-clause-stands : goal.returns-in-Some-clause-stands
-returns-in-Some-clause-stands c records given stands =
+pub returns-in-Some : goal.returns-in-Some
+returns-in-Some c =
     let is : c.next_shown-next.result ≡ Some c.in-Some.shown = cc in
-    let st = subst (StandsFor records given) (sym c.self.view_is) stands in
-    stands_next records given _ _ c.next_shown-next.result c.in-Some.shown is st (given_out records given _ _ st (c.next_shown-next.ensures.given _ given st.judges))
-    (record { plan = refl; closed = refl; schedule = c.next_shown-next.ensures.plan; units = c.next_shown-next.ensures.units; ends = c.next_shown-next.ensures.ready.over })
-    (c.next_shown-next.ensures.judges _ given st.judges) c.with_shown-self-inside.ensures
-
-pub returns-in-Some-clause-less : goal.returns-in-Some-clause-less
-returns-in-Some-clause-less c =
-    let is : c.next_shown-next.result ≡ Some c.in-Some.shown = cc in
-    let sound = c.self.invariant.0 in
-    let one : length (option_to_list c.next_shown-next.result) ≡ 1 = ap (λ (o : Option Shown). length (option_to_list o)) is in
-    let few = shown_few sound.records sound.given _ c.in-Some.shown sound.stands (sym is ∙ given_out sound.records sound.given _ _ sound.stands (c.next_shown-next.ensures.given _ sound.given sound.stands.judges)) in
-    omega (arith, one, work_less _ _ c.in-Some.shown c.with_shown-self-inside.ensures few, ap work c.self.view_is)
+    record {
+      given = λ records given stands.
+          let st = subst (StandsFor records given) (sym c.self.view_is) stands in
+          subst (λ (l : ListenState). c.next_shown-next.result ≡ slice_get (out l records) given) c.self.view_is (given_out records given _ c.next_shown-next.result st (c.next_shown-next.ensures.given _ given st.judges));
+      stands = λ records given stands.
+          let st = subst (StandsFor records given) (sym c.self.view_is) stands in
+          stands_next records given _ _ c.next_shown-next.result c.in-Some.shown is st (given_out records given _ _ st (c.next_shown-next.ensures.given _ given st.judges))
+          (record { plan = refl; closed = refl; schedule = c.next_shown-next.ensures.plan; units = c.next_shown-next.ensures.units; ends = c.next_shown-next.ensures.ready.over })
+          (c.next_shown-next.ensures.judges _ given st.judges) c.with_shown-self-inside.ensures;
+      idle = search rules;
+      keeps = search rules;
+      less =
+          let sound = c.self.invariant.0 in
+          let one : length (option_to_list c.next_shown-next.result) ≡ 1 = ap (λ (o : Option Shown). length (option_to_list o)) is in
+          let few = shown_few sound.records sound.given _ c.in-Some.shown sound.stands (sym is ∙ given_out sound.records sound.given _ _ sound.stands (c.next_shown-next.ensures.given _ sound.given sound.stands.judges)) in
+          omega (arith, one, work_less _ _ c.in-Some.shown c.with_shown-self-inside.ensures few, ap work c.self.view_is);
+    }

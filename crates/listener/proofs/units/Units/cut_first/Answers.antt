@@ -22,23 +22,26 @@ none_here : (own : Option Item) → is_some own ≡ false → own ≡ None
 none_here None e = refl
 none_here (Some item) e = absurd cc
 
-pub returns-then-is_none-clause-first : goal.returns-then-is_none-clause-first
-returns-then-is_none-clause-first c =
+pub returns-then-is_none : goal.returns-then-is_none
+returns-then-is_none c =
     let own : c.self.inside.own ≡ None = none_here c.self.inside.own (c.is_none.ensures ∙ ap not c.if-is_none.true) in
     let none : length c.cut-self-inside.new.self.lost ≡ 0 = sym c.cut-self-inside.ensures.marks ∙ c.if-self-eq0.true in
     record {
       between = when_cut c.args.item c.cut-self-inside.new.self;
       cuts = cuts_of c.args.item _ c.cut-self-inside.new.self
           (λ es was. c.cut-self-inside.ensures.stands es (subst (λ (u : Gathered). StandsFor u.assembly es) (sym c.self.view_is) was));
-      first = rw own (first_alone c.cut-self-inside.new.self.lost c.args.item none);
-      stands = λ ds has. has_as refl has;
+      rest = record {
+        stands = λ ds has. has_as refl has;
+        none = tt;
+        item = c.requires;
+        left = rw own (first_alone c.cut-self-inside.new.self.lost c.args.item none);
+      };
     }
 
-pub returns-clause-first : goal.returns-clause-first
-returns-clause-first c = record {
+pub returns : goal.returns
+returns c = record {
   between = when_cut c.args.item c.cut-self-inside.new.self;
   cuts = cuts_of c.args.item _ c.cut-self-inside.new.self
       (λ es was. c.cut-self-inside.ensures.stands es (subst (λ (u : Gathered). StandsFor u.assembly es) (sym c.self.view_is) was));
-  first = c.next.ensures.left;
-  stands = c.next.ensures.stands;
+  rest = c.next.ensures;
 }

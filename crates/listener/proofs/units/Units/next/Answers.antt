@@ -1,4 +1,4 @@
-use Rattle.std.proofs.Common.{◌≡◌, ◌+◌, ◌∷◌, sym, ap, subst, refl, ◌∙◌}
+use Rattle.std.proofs.Common.{◌≡◌, ◌+◌, ◌∷◌, rules, sym, ap, subst, refl, ◌∙◌}
 use Rattle.sample_schedule.specs.declared.item.Item.{Item}
 use Rattle.sample_schedule.specs.declared.shown.Reason.{Reason}
 use Rattle.sample_schedule.specs.Limits.{IsItem}
@@ -16,11 +16,12 @@ before c = record { assembly = c.self.inside.assembler; why = c.self.inside.why;
 abbrev after : goal.After-lost_item → Gathered
 after c = record { assembly = c.self.inside.assembler; why = c.self.inside.why; taken = c.self.inside.taken + 1; own = c.self.inside.own }
 
-pub returns-then-self-clause-left : goal.returns-then-self-clause-left
-returns-then-self-clause-left c =
+pub returns-then-self : goal.returns-then-self
+returns-then-self c =
     let there = lost_there (before c) c.lost_mark-mark.result c.self.invariant.0 c.lost_mark-mark.ensures in
-    ap left (sym c.self.view_is) ∙ (next_left (before c) (after c) c.lost_mark-mark.result there refl ∙ ap (λ (i : Item). i ∷ left (after c)) (sym (item_is c)))
-
-pub returns-then-self-clause-item : goal.returns-then-self-clause-item
-returns-then-self-clause-item c =
-    subst IsItem (sym (item_is c)) (lost_timely (before c) c.lost_mark-mark.result c.self.invariant.0 (lost_there (before c) c.lost_mark-mark.result c.self.invariant.0 c.lost_mark-mark.ensures))
+    record {
+      stands = search rules;
+      none = tt;
+      item = subst IsItem (sym (item_is c)) (lost_timely (before c) c.lost_mark-mark.result c.self.invariant.0 there);
+      left = ap left (sym c.self.view_is) ∙ (next_left (before c) (after c) c.lost_mark-mark.result there refl ∙ ap (λ (i : Item). i ∷ left (after c)) (sym (item_is c)));
+    }

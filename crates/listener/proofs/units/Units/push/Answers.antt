@@ -34,7 +34,7 @@ pushes c old is =
 pub invariant_of-self : goal.invariant_of-self
 invariant_of-self c = (
   sound_push (delivery_shape c.args.delivery.now) (cvf_shape c.args.view.now) _ (record { assembly = c.push-pushed.new.self; why = c.push-pushed.result.why; taken = 0; own = c.own_item.result })
-      c.self.invariant.0 c.requires.arrival c.own_item.ensures.item (pushes c _ refl),
+      c.self.invariant.0 c.args.delivery.now.timely c.own_item.ensures.item (pushes c _ refl),
   c.push-pushed.ensures.marks,
   omega arith,
 )

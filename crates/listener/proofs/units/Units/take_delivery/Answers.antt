@@ -7,19 +7,19 @@ use Rattle.listener.proofs.Gathered.{audio_taken}
 use Rattle.listener.proofs.units.Units.take_delivery.Goals as goal
 
 pub cut_first-requires : goal.cut_first-requires
-cut_first-requires c = rw c.in_ok-item.ensures (item_fits (delivery_shape c.args.delivery.now) c.requires.arrival)
+cut_first-requires c = rw c.in_ok-item.ensures (item_fits (delivery_shape c.args.delivery.now) c.args.delivery.now.timely)
 
 pub returns-then-delivery-ne-CVF : goal.returns-then-delivery-ne-CVF
 returns-then-delivery-ne-CVF c =
     let d = delivery_shape c.args.delivery.now in
-    let first = c.cut_first.ensures.first in
+    let first = c.cut_first.ensures in
     record {
       stands = λ ds has.
-          first.stands _ (audio_taken ds d c.in_ok-item.item _ first.between c.requires.stream c.if-delivery-ne-CVF.true c.in_ok-item.ensures has first.cuts).has;
+          first.rest.stands _ (audio_taken ds d c.in_ok-item.item _ first.between c.requires.stream c.if-delivery-ne-CVF.true c.in_ok-item.ensures has first.cuts).has;
       gives = λ ds has.
-          ap (λ (l : List Item). map item_entry l) (sym first.first)
+          ap (λ (l : List Item). map item_entry l) (sym first.rest.left)
           ∙ (audio_taken ds d c.in_ok-item.item _ first.between c.requires.stream c.if-delivery-ne-CVF.true c.in_ok-item.ensures has first.cuts).gives;
-      item = c.cut_first.ensures.item;
+      item = first.rest.item;
     }
 
 pub returns : goal.returns

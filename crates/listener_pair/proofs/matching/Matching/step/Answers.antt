@@ -1,5 +1,5 @@
 -- The next batch is worked through.
-use Rattle.std.proofs.Common.{◌+◌, length, ap, sym, ◌∙◌, subst}
+use Rattle.std.proofs.Common.{◌+◌, length, rules, ap, sym, ◌∙◌, subst}
 use Rattle.std.specs.Option.{option_to_list}
 use Rattle.listener_pair.specs.Matching.{MatchingState, StandsFor}
 use Rattle.listener_pair.specs.state.Window.{counted, risen}
@@ -15,14 +15,16 @@ came c =
     c.enter-entered.ensures.tells (c.saturating_add-self-inside.ensures ∙ ap (λ (m : MatchingState). risen m.place) c.self.view_is)
     (λ pair told. c.counted-self-inside.ensures pair told ∙ ap (λ (m : MatchingState). counted c.args.side pair m.counts) c.self.view_is)
 
-pub returns-clause-stands : goal.returns-clause-stands
-returns-clause-stands c xs ys given h =
+pub returns : goal.returns
+returns c =
     let t = came c in
-    subst (λ (m : MatchingState). StandsFor xs ys (given + length (option_to_list c.enter-entered.result.difference)) m)
-    (sym (ap (λ (m : MatchingState). left m c.saturating_add-self-inside.result c.counted-self-inside.result) c.self.view_is))
-    (step-stands c.args.side t.batch c.args.self.now (left c.enter-entered.new.self c.saturating_add-self-inside.result c.counted-self-inside.result) t.pair c.enter-entered.result.difference c.requires t.next t.steps t.tells xs ys given h)
-
-pub returns-clause-first : goal.returns-clause-first
-returns-clause-first c =
-    let t = came c in
-    step-first c.args.side t.batch c.args.self.now (left c.enter-entered.new.self c.saturating_add-self-inside.result c.counted-self-inside.result) t.pair c.enter-entered.result.difference c.requires t.next t.steps t.tells
+    let after = left c.enter-entered.new.self c.saturating_add-self-inside.result c.counted-self-inside.result in
+    record {
+      stands = λ xs ys given h.
+          subst (λ (m : MatchingState). StandsFor xs ys (given + length (option_to_list c.enter-entered.result.difference)) m)
+          (sym (ap (λ (m : MatchingState). left m c.saturating_add-self-inside.result c.counted-self-inside.result) c.self.view_is))
+          (step-stands c.args.side t.batch c.args.self.now after t.pair c.enter-entered.result.difference c.requires t.next t.steps t.tells xs ys given h);
+      first = step-first c.args.side t.batch c.args.self.now after t.pair c.enter-entered.result.difference c.requires t.next t.steps t.tells;
+      ended = search rules;
+      less = search rules;
+    }
