@@ -4,10 +4,6 @@ pub mod PieceLemmas
 pub mod GatewayLemmas
 pub mod HistoryLemmas
 pub mod CutLemmas
-pub mod ValueLemmas
-pub mod SampleLemmas
-pub mod Accepted
-pub mod Timely
 pub mod Shaped
 pub mod Scanned
 pub mod HeaderLemmas

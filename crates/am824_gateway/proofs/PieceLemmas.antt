@@ -1,6 +1,6 @@
 -- How a batch is cut.
-use Rattle.std.proofs.Common.{◌≡◌, ℕ, zero, suc, ◌+◌, ◌-◌, ◌*◌, ◌/◌, ◌<◌, ◌≤◌, Bool, true, false, List, [], ◌∷◌, ◌++◌, length, refl, sym, ap, ◌∙◌, append_assoc, arith}
-use Rattle.std.specs.Prelude.{◌||◌, ◌+ℤ◌, ◌*ℤ◌, ◌≤ℤ◌, ◌<ℤ◌, min, nat_lt, pos, ℤ}
+use Rattle.std.proofs.Common.{◌≡◌, ℕ, zero, suc, ◌+◌, ◌-◌, ◌*◌, ◌/◌, ◌<◌, ◌≤◌, Bool, true, false, List, [], ◌∷◌, ◌++◌, length, Option, Some, None, inl, refl, sym, ap, ◌∙◌, append_assoc, arith}
+use Rattle.std.specs.Prelude.{◌||◌, ◌+ℤ◌, ◌*ℤ◌, ◌≤ℤ◌, ◌<ℤ◌, min, nat_lt, option_and_then, pos, unwrap_or, ℤ}
 use Rattle.std.specs.Ordering.{int_eq}
 use Rattle.std.specs.List.{list_any}
 use Rattle.std.proofs.Math.Nat.{div-mul-le_self, mul-le-mul_right}
@@ -9,12 +9,15 @@ use Rattle.std.proofs.lemmas.Int.{ints}
 use Rattle.time_unfold.specs.Lines.{floor_of}
 use Rattle.time_unfold.proofs.Floors.{floor_above, floor_below, floor_only}
 use Rattle.sample_schedule.specs.Batches.{Presented, sample_instant}
-use Rattle.talk_plan.specs.Plan.{interval_of}
+use Rattle.iec61883_format.specs.Iec.{IsSytInterval, syt_interval}
+use Rattle.talk_plan.specs.Plan.{fdf_of, interval_of}
 use Rattle.talk_plan.specs.Timing.{nominal_offset}
 use Rattle.am824_gateway.specs.declared.piece.Piece.{Piece}
 use Rattle.am824_gateway.specs.declared.scan.Shape.{Shape}
 use Rattle.am824_gateway.specs.declared.scan.To.{To}
+use Rattle.am824_gateway.specs.declared.scan.To.TheVariants.{Aaf, Am824}
 use Rattle.am824_gateway.specs.Labels.{value_out}
+use Rattle.am824_gateway.specs.Packets.{frame_size}
 use Rattle.am824_gateway.specs.Pieces.{block_after, going_on, is_late, is_nominal, most_bytes, most_frames, next_block, piece_count, pieces_from, pieces_of}
 use Rattle.am824_gateway.specs.Scan.{IsShape}
 use Rattle.am824_gateway.specs.state.Cutting.{IsOnePiece}
@@ -45,9 +48,9 @@ counted test k (suc more) = by (test k) refl (counted test (suc k) more)
     by false e next = rw e (omega arith, omega arith)
 
 -- the code's comparison of instants gives the result of the test `is_nominal` for sample k
-pub test_is : (rate first k j offset : ℕ) (batch : Presented) (now start : ℤ) (b : Bool) → b ≡ int_eq now (start +ℤ pos offset) → now ≡ sample_instant batch j → j ≡ first + k → start ≡ sample_instant batch first
-    → offset ≡ nominal_offset rate k → is_nominal rate batch first k ≡ b
-test_is rate first k j offset batch now start b e at place begun off = sym (e ∙ (rw (at, place, begun, off) refl))
+pub test_is : (rate first k j : ℕ) (batch : Presented) (now start : ℤ) (b : Bool) → b ≡ int_eq now (start +ℤ pos (nominal_offset rate k)) → now ≡ sample_instant batch j → j ≡ first + k
+    → start ≡ sample_instant batch first → is_nominal rate batch first k ≡ b
+test_is rate first k j batch now start b e at place begun = sym (e ∙ (rw (at, place, begun) refl))
 
 -- ---- the pieces
 
@@ -102,6 +105,23 @@ most_of count most d h = (let times = mul-le-mul_right d h in let whole = div-mu
 pub fits : (to : To) (channels count : ℕ) → count ≤ most_frames to channels → count * (value_out to * channels) ≤ most_bytes to
 fits to channels count h = most_of count (most_bytes to) (value_out to * channels) h
 
+-- the frame of such a piece is not too long for Ethernet
+pub frame_fits : (to : To) (shape : Shape) (p : Piece) → p.count ≤ most_frames to shape.channels → frame_size to shape p ≤ 1518
+frame_fits Am824 shape p h = (let size = fits Am824 shape.channels p.count h in omega (arith, size))
+frame_fits Aaf shape p h = (let size = fits Aaf shape.channels p.count h in omega (arith, size))
+
+-- ---- rates
+
+pub some_rate : (shape : Shape) → IsShape shape → 1 ≤ shape.rate
+some_rate shape is = (let known = is.rate in grind (arith, nat_tests))
+
+pub interval_is : (rate : ℕ) → IsSytInterval (interval_of rate)
+interval_is rate = by (fdf_of rate)
+  where
+    by : (fdf : Option ℕ) → IsSytInterval (unwrap_or (option_and_then syt_interval fdf) 8)
+    by None = inl refl
+    by (Some code) = grind (arith, nat_tests)
+
 -- ---- a batch that is one piece
 
 all_pass : (test : ℕ → Bool) (j more : ℕ) → ((k : ℕ) → test k ≡ true) → going_on test j more ≡ j + more
@@ -125,8 +145,9 @@ on_line rate k batch some from num den =
     ap (λ (z : ℤ). batch.line.base +ℤ floor_of z batch.line.den) (steps batch.from batch.line.num k from num)
     ∙ (ap (λ (d : ℕ). batch.line.base +ℤ floor_of (pos (k * 1000000000)) d) den ∙ ap (λ (z : ℤ). batch.line.base +ℤ z) (floor_natural (k * 1000000000) rate some))
 
-pub one_piece : (to : To) (shape : Shape) (batch : Presented) (block : ℕ) → IsOnePiece to shape batch → 1 ≤ shape.rate → 1 ≤ batch.count → pieces_of to shape batch block ≡ record { first = 0; count = batch.count; block = block } ∷ []
-one_piece to shape batch block is some full =
+pub one_piece : (to : To) (shape : Shape) (batch : Presented) (block : ℕ) → IsOnePiece to shape batch → 1 ≤ batch.count → pieces_of to shape batch block ≡ record { first = 0; count = batch.count; block = block } ∷ []
+one_piece to shape batch block is full =
+    let some = some_rate shape is.known in
     let passes = λ (k : ℕ).
     let here = on_line shape.rate k batch some is.begun is.num is.den in
     let start = on_line shape.rate 0 batch some is.begun is.num is.den in
@@ -140,9 +161,6 @@ one_piece to shape batch block is some full =
     let first = first_piece to shape batch batch.count 0 block full full in
     let rest = no_piece to shape batch (batch.count - 1) (0 + piece_count to shape batch 0) (next_block (interval_of shape.rate) block (piece_count to shape batch 0)) (omega (arith, count)) in
     first ∙ (rw (rest, count) refl)
-
-pub some_rate : (shape : Shape) → IsShape shape → 1 ≤ shape.rate
-some_rate shape is = (let known = is.rate in grind (arith, nat_tests))
 
 pub late_one : (batch : Presented) (p : Piece) → list_any (is_late batch) (p ∷ []) ≡ is_late batch p
 late_one batch p = by (is_late batch p)

@@ -1,6 +1,6 @@
 -- If records have no fault, the shape that a scan finds in them can be converted.
 use Rattle.std.proofs.Common.{◌≡◌, ℕ, zero, suc, ◌≤◌, Bool, true, false, List, [], ◌∷◌, Option, Some, None, refl, arith}
-use Rattle.std.specs.Prelude.{◌==◌, ◌||◌, IfSome, if◌then◌else◌, is_none, nat_lt, not}
+use Rattle.std.specs.Prelude.{⊤, ◌==◌, ◌||◌, IfSome, if◌then◌else◌, is_none, nat_lt, not}
 use Rattle.std.proofs.lemmas.Bool.{ltb-false}
 use Rattle.avtp_base.specs.declared.refusal.Refusal.{Refusal}
 use Rattle.avtp_base.specs.Octets.{bits}
@@ -21,11 +21,17 @@ use Rattle.am824_gateway.specs.declared.content.Samples.{Samples}
 use Rattle.am824_gateway.specs.declared.scan.ScanFault.TheVariants.{Kind, Format, Rate, Channels, Label}
 use Rattle.am824_gateway.specs.declared.scan.Shape.{Shape}
 use Rattle.am824_gateway.specs.declared.scan.To.{To}
-use Rattle.am824_gateway.specs.Content.{IsCounted, am824, am824_content, content, packet_content, pcm, pcm_content, samples_or_silent}
+use Rattle.am824_gateway.specs.Content.{am824, am824_content, content, packet_content, pcm, pcm_content, samples_or_silent}
 use Rattle.am824_gateway.specs.Scan.{IsShape, content_fault, fault_from, fault_rows, first_fault, first_of, row, same_format, shape_after, shape_from, shape_in, shape_of}
 use Rattle.am824_gateway.proofs.ScanLemmas.{passed}
 
 -- ---- samples have a channel
+
+-- if the content is samples, they have at least one channel
+abbrev pub IsCounted : Content → Type 0
+IsCounted Silent = ⊤
+IsCounted Video = ⊤
+IsCounted (Audio s) = 1 ≤ s.channels
 
 not_none : (n : ℕ) → (n == 0) ≡ false → 1 ≤ n
 not_none zero e = absurd cc
@@ -63,7 +69,7 @@ counted_packet p = by (p.subtype == cvf_subtype) (p.subtype == aaf_subtype) wher
   by false true = pcm_counted p.bytes (aaf_refusal p.bytes) refl
   by false false = am824_counted p.bytes (iec_refusal p.bytes) refl
 
-counted : (stream : ℕ) (bytes : List ℕ) → IsCounted (content stream bytes)
+pub counted : (stream : ℕ) (bytes : List ℕ) → IsCounted (content stream bytes)
 counted stream bytes = by (belongs stream_kinds stream bytes) where
   by : (here : Bool) → IsCounted (if here then packet_content (stream_packet bytes) else Silent)
   by true = counted_packet (stream_packet bytes)

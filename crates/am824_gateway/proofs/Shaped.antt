@@ -1,7 +1,7 @@
--- If a stream has no fault, each presented batch of the stream has the stream's shape.
-use Rattle.std.proofs.Common.{◌≡◌, ◌⊎◌, inl, inr, ℕ, zero, suc, ◌+◌, ◌*◌, ◌≤◌, Bool, true, false, List, [], ◌∷◌, All, length, drop, filter, map, Option, Some, None, Ok, refl, sym, ap, subst, ◌∙◌, eq-eqb, arith}
-use Rattle.std.specs.Prelude.{⊤, ◌==◌, ◌&&◌, ◌||◌, ◌≢◌, if◌then◌else◌, cond, nat_lt, not, slice_get, unwrap_or}
-use Rattle.std.specs.List.{AllByRecursion, enumerate_from, list_any}
+-- If a stream has no fault, each item that a listener makes of the stream has the stream's shape.
+use Rattle.std.proofs.Common.{◌≡◌, ◌⊎◌, inl, inr, ℕ, zero, suc, ◌+◌, ◌*◌, ◌≤◌, Bool, true, false, List, [], ◌∷◌, All, length, drop, filter, map, Option, Some, None, refl, sym, ap, subst, ◌∙◌, arith}
+use Rattle.std.specs.Prelude.{⊤, ◌==◌, ◌&&◌, ◌||◌, if◌then◌else◌, cond, nat_lt, not, slice_get, unwrap_or}
+use Rattle.std.specs.List.{AllByRecursion, enumerate_from}
 use Rattle.std.proofs.lemmas.Bool.{eqb-true, ltb-false}
 use Rattle.std.proofs.lemmas.Bool.Decides.{nat_tests}
 use Rattle.std.proofs.lemmas.List.{length-drop, length-take}
@@ -23,20 +23,11 @@ use Rattle.pcap_frames.specs.Capture.{Record}
 use Rattle.packet_journal.specs.Deliveries.{Delivery, belongs, belongs_to_clock, delivery, is_avtp, is_delivered, packet_in, stream_kinds}
 use Rattle.sample_schedule.specs.declared.entry.Entry.{Entry}
 use Rattle.sample_schedule.specs.declared.entry.Entry.TheVariants.{Item as OfItem, Clock as OfClock}
-use Rattle.sample_schedule.specs.declared.item.Item.{Item}
 use Rattle.sample_schedule.specs.declared.item.Item.TheVariants.{Packet as OfPacket, Unit as OfUnit, Bad as OfBad}
 use Rattle.sample_schedule.specs.declared.item.Packet.{Packet}
-use Rattle.sample_schedule.specs.declared.plan.SchedulePlan.{SchedulePlan}
-use Rattle.sample_schedule.specs.Batches.{Presented, is_unit}
-use Rattle.sample_schedule.specs.Schedule.{prefix_of}
-use Rattle.sample_schedule.specs.Verdicts.{timed}
-use Rattle.clock_track.specs.Rows.{clock_spot}
-use Rattle.listener.specs.declared.plan.ListenPlan.{ListenPlan}
-use Rattle.listener.specs.Heard.{deliveries_of, due_of, entries_in, items_in, schedule_plan, shown_of}
-use Rattle.listener.specs.Items.{MadeItem, aaf_item, blocks_of, clock_row, entry_of, iec_item, item_of, made_entry, made_of_one, refused_or, samples_of}
-use Rattle.listener.specs.Laws.{presented_of}
+use Rattle.listener.specs.Items.{aaf_item, blocks_of, clock_row, entry_of, iec_item, item_of, made_entry, made_of_one, refused_or, samples_of}
 use Rattle.listener.specs.Streams.{stream_packet}
-use Rattle.listener.proofs.Made.{IsOther, items_other}
+use Rattle.listener.proofs.Made.{IsOther}
 use Rattle.am824_gateway.specs.declared.content.Content.{Content}
 use Rattle.am824_gateway.specs.declared.content.Content.TheVariants.{Silent, Video, Audio}
 use Rattle.am824_gateway.specs.declared.content.Samples.{Samples}
@@ -44,15 +35,11 @@ use Rattle.am824_gateway.specs.declared.scan.Shape.{Shape}
 use Rattle.am824_gateway.specs.declared.scan.ScanFault.TheVariants.{Kind, Format, Rate, Channels, Label}
 use Rattle.am824_gateway.specs.declared.scan.To.{To}
 use Rattle.am824_gateway.specs.declared.scan.To.TheVariants.{Aaf, Am824}
-use Rattle.am824_gateway.specs.declared.skip.Skip.TheVariants.{ShapeOff, Overlap, Range}
 use Rattle.am824_gateway.specs.Content.{am824, am824_content, content, has_24_bits, packet_content, pcm, pcm_content, samples_or_silent}
 use Rattle.am824_gateway.specs.Labels.{value_in}
-use Rattle.am824_gateway.specs.Pieces.{Given, has_labels, has_shape, is_late, overlaps, pieces_of, skip_of}
-use Rattle.am824_gateway.specs.Scan.{content_fault, fault_from, fault_rows, first_fault, first_of, other_rate, row, same_format, shape_after, shape_from, shape_in, shape_of}
+use Rattle.am824_gateway.specs.Pieces.{has_labels}
+use Rattle.am824_gateway.specs.Scan.{content_fault, fault_from, fault_rows, first_of, other_rate, row, same_format, shape_after, shape_from, shape_of}
 use Rattle.am824_gateway.proofs.ScanLemmas.{passed}
-use Rattle.am824_gateway.specs.Shaped.{IsShapedAs}
-use Rattle.am824_gateway.proofs.Accepted.{HoldsOfItems, due_all, presented_all}
-use Rattle.am824_gateway.proofs.Timely.{HasRate, IsOfPacket, all_rated, of_packet, rate_at}
 
 -- ---- the scan
 
@@ -73,7 +60,7 @@ fine_one to stream first Video records none = absurd cc
 fine_one to stream None (Audio s) records none = subst (λ (o : Option Shape). IsFine to o (Audio s)) (sym (shape_kept stream (shape_of s) records)) none
 fine_one to stream (Some shape) (Audio s) records none = subst (λ (o : Option Shape). IsFine to o (Audio s)) (sym (shape_kept stream shape records)) none
 
-all_fine : (to : To) (stream : ℕ) (first : Option Shape) (frame : ℕ) (records : List Record) → fault_from to stream first frame records ≡ None
+pub all_fine : (to : To) (stream : ℕ) (first : Option Shape) (frame : ℕ) (records : List Record) → fault_from to stream first frame records ≡ None
     → AllByRecursion (λ (r : Record). IsFine to (shape_from stream first records) (content stream r.bytes)) records
 all_fine to stream first frame [] none = tt
 all_fine to stream first frame (r ∷ records) none =
@@ -84,7 +71,7 @@ all_fine to stream first frame (r ∷ records) none =
 -- ---- deliveries
 
 -- the delivery is a CRF packet, or its content has no fault
-abbrev IsFineDelivery : To → Option Shape → Delivery → Type 0
+abbrev pub IsFineDelivery : To → Option Shape → Delivery → Type 0
 IsFineDelivery to shape d = ((d.subtype == crf_subtype) ≡ true) ⊎ IsFine to shape (packet_content (record { subtype = d.subtype; bytes = d.packet }))
 
 clock_kind : (clock : Option ℕ) (bytes : List ℕ) → belongs_to_clock clock bytes ≡ true → ((peeked_of (packet_in bytes)).subtype == crf_subtype) ≡ true
@@ -103,7 +90,7 @@ fine_delivery to shape stream clock i r e fine = by (belongs stream_kinds stream
     by true either is = inr is
     by false either is = inl (clock_kind clock r.bytes either)
 
-fine_deliveries : (to : To) (shape : Option Shape) (stream : ℕ) (clock : Option ℕ) (i : ℕ) (records : List Record) → AllByRecursion (λ (r : Record). IsFine to shape (content stream r.bytes)) records
+pub fine_deliveries : (to : To) (shape : Option Shape) (stream : ℕ) (clock : Option ℕ) (i : ℕ) (records : List Record) → AllByRecursion (λ (r : Record). IsFine to shape (content stream r.bytes)) records
     → All (IsFineDelivery to shape) (map (λ (x : ℕ × Record). delivery x.0 x.1) (filter (λ (x : ℕ × Record). is_delivered stream clock x.1.bytes) (enumerate_from i records)))
 fine_deliveries to shape stream clock i [] all = All-nil (IsFineDelivery to shape)
 fine_deliveries to shape stream clock i (r ∷ records) all = by (is_delivered stream clock r.bytes) refl (fine_deliveries to shape stream clock (i + 1) records all.1)
@@ -126,7 +113,7 @@ not_video to shape d (inr fine) = by (d.subtype == cvf_subtype) fine
     by false is = refl
     by true is = absurd is
 
-all_other : (to : To) (shape : Option Shape) (ds : List Delivery) → All (IsFineDelivery to shape) ds → All IsOther ds
+pub all_other : (to : To) (shape : Option Shape) (ds : List Delivery) → All (IsFineDelivery to shape) ds → All IsOther ds
 all_other to shape [] all = All-nil IsOther
 all_other to shape (d ∷ ds) all =
     All-cons IsOther d ds (not_video to shape d (All-head (IsFineDelivery to shape) d ds all)) (all_other to shape ds (All-tail (IsFineDelivery to shape) d ds all))
@@ -254,65 +241,7 @@ entry_shapely to shape d (inr fine) = by (d.subtype == crf_subtype)
     by true = tt
     by false = of_item (d.subtype == cvf_subtype) (d.subtype == aaf_subtype) fine
 
-shapely_at : (to : To) (shape : Option Shape) (ds : List Delivery) (i : ℕ) (e : Entry) → All (IsFineDelivery to shape) ds → slice_get (map made_entry (map made_of_one ds)) i ≡ Some e → IsShapely to shape e
+pub shapely_at : (to : To) (shape : Option Shape) (ds : List Delivery) (i : ℕ) (e : Entry) → All (IsFineDelivery to shape) ds → slice_get (map made_entry (map made_of_one ds)) i ≡ Some e → IsShapely to shape e
 shapely_at to shape [] i e all there = absurd cc
 shapely_at to shape (d ∷ ds) zero e all there = (let same : entry_of d ≡ e = cc in subst (IsShapely to shape) same (entry_shapely to shape d (All-head (IsFineDelivery to shape) d ds all)))
 shapely_at to shape (d ∷ ds) (suc i) e all there = shapely_at to shape ds i e (All-tail (IsFineDelivery to shape) d ds all) there
-
--- ---- what is presented
-
-no_unit : (p : Packet) (batch : Presented) → IsOfPacket p batch → is_unit batch ≡ false
-no_unit p batch is =
-    let some = is.slow.some in
-    let least = is.slow.least in
-    let many : (is.spot.line.num == 1) ≡ false = grind (arith, nat_tests) in
-    rw (is.is, many) refl
-
-of_values : (to : To) (shape : Option Shape) (p : Packet) (batch : Presented) → IsOfPacket p batch → HasValues to shape p → IsShapedAs to shape batch
-of_values to shape p batch is has = subst (λ (o : Option Shape). IsShapedAs to o batch) (sym has.is) (shaped (no_unit p batch is))
-  where
-    same_size : length batch.bytes ≡ batch.count * (value_in to * has.found.channels)
-    same_size = rw (is.is) has.size
-
-    same_labels : has_labels to batch.bytes ≡ true
-    same_labels = rw (is.is) has.labels
-
-    shaped : is_unit batch ≡ false → has_shape to has.found batch ≡ true
-    shaped none =
-        let size : (length batch.bytes == batch.count * (value_in to * has.found.channels)) ≡ true = eq-eqb (length batch.bytes) (batch.count * (value_in to * has.found.channels)) same_size in
-        rw (none, size, same_labels) refl
-
-item_shaped : (to : To) (shape : Option Shape) (plan : SchedulePlan) (prefix : List Entry) (item : Item) (batch : Presented) → HasRate (OfItem item) → IsShapely to shape (OfItem item) → timed clock_spot plan prefix item ≡ Ok batch → IsShapedAs to shape batch
-unfolding timed
-item_shaped to shape plan prefix (OfBad b) batch rate fine e = absurd cc
-item_shaped to shape plan prefix (OfUnit u) batch rate fine e = absurd fine
-item_shaped to shape plan prefix (OfPacket p) batch rate fine e =
-    let is = of_packet plan prefix p batch rate e in
-    of_values to shape p batch is (fine is.some is.some_rate)
-
-shaped_items : (to : To) (plan : ListenPlan) (records : List Record) → first_fault to plan.stream records ≡ None → HoldsOfItems (schedule_plan plan) (entries_in plan records) (IsShapedAs to (shape_in plan.stream records))
-shaped_items to plan records none i item batch there e early =
-    let shape : Option Shape = shape_in plan.stream records in
-    let ds = deliveries_of plan records in
-    let fine = fine_deliveries to shape plan.stream plan.clock 1 records (all_fine to plan.stream None 1 records none) in
-    let items = items_other ds (all_other to shape ds fine) in
-    let rate = rate_at (items_in plan records) i (OfItem item) (all_rated ds) there in
-    let shapely = shapely_at to shape ds i (OfItem item) fine (sym (ap (λ (ms : List MadeItem). slice_get (map made_entry ms) i) items) ∙ there) in
-    item_shaped to shape (schedule_plan plan) (prefix_of (schedule_plan plan) (entries_in plan records) i) item batch rate shapely e
-
-pub shown_shaped : (to : To) (plan : ListenPlan) (records : List Record) → first_fault to plan.stream records ≡ None → AllByRecursion (IsShapedAs to (shape_in plan.stream records)) (presented_of (shown_of plan records))
-shown_shaped to plan records none = presented_all (IsShapedAs to (shape_in plan.stream records)) plan records (shaped_items to plan records none)
-
-pub due_shaped : (to : To) (plan : ListenPlan) (records : List Record) → first_fault to plan.stream records ≡ None → AllByRecursion (IsShapedAs to (shape_in plan.stream records)) (presented_of (due_of plan records))
-due_shaped to plan records none = due_all (IsShapedAs to (shape_in plan.stream records)) plan records (shown_shaped to plan records none)
-
--- a batch that has the stream's shape is not skipped as `ShapeOff`
-pub not_shape_off : (to : To) (shape : Option Shape) (given : Given) (batch : Presented) → IsShapedAs to shape batch → skip_of to shape given batch ≢ Some ShapeOff
-not_shape_off to None given batch is e = absurd is
-not_shape_off to (Some shape) given batch is e = by (has_shape to shape batch) is (overlaps given.last batch) (list_any (is_late batch) (pieces_of to shape batch given.block)) e
-  where
-    by : (a : Bool) → a ≡ true → (b c : Bool) → (if not a then Some ShapeOff else if b then Some Overlap else if c then Some Range else None) ≡ Some ShapeOff → ⊥
-    by false f b c h = absurd cc
-    by true f true c h = absurd cc
-    by true f false true h = absurd cc
-    by true f false false h = absurd cc

@@ -1,5 +1,5 @@
 -- What a gateway reads from a record.
-use Rattle.std.specs.Prelude.{⊤, ℕ, ◌≤◌, ◌==◌, Bool, true, false, ◌&&◌, ◌||◌, if◌then◌else◌, List, Option, Some, None}
+use Rattle.std.specs.Prelude.{ℕ, ◌==◌, Bool, true, false, ◌&&◌, ◌||◌, if◌then◌else◌, List, Option, Some, None}
 use Rattle.avtp_base.specs.declared.refusal.Refusal.{Refusal}
 use Rattle.aaf_format.specs.declared.aaf.AafFormat.{AafFormat}
 use Rattle.aaf_format.specs.declared.aaf.AafFormat.TheVariants.{Float32, Int32, Int24, Int16}
@@ -69,9 +69,3 @@ packet_content p =
 -- the content of a record's bytes for the stream with this ID; `Silent` if the record has no packet of the stream
 abbrev pub content : ℕ → List ℕ → Content
 content stream bytes = if belongs stream_kinds stream bytes then packet_content (stream_packet bytes) else Silent
-
--- if the content is samples, they have at least one channel
-abbrev pub IsCounted : Content → Type 0
-IsCounted Silent = ⊤
-IsCounted Video = ⊤
-IsCounted (Audio s) = 1 ≤ s.channels

@@ -6,6 +6,4 @@ pub mod Packets
 pub mod Gateways
 pub mod Lending
 pub mod Laws
-pub mod Samples
-pub mod Shaped
 pub mod state

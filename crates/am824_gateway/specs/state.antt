@@ -3,3 +3,4 @@ pub mod Cutting
 pub mod Kept
 pub mod Noting
 pub mod Streams
+pub mod Turning

@@ -1,18 +1,17 @@
 //! Converts the batches that a listener presents into packets of the other format.
 
-ghost use Rattle.std.specs.Prelude.{◌≡◌, ◌+◌, ◌*◌, ◌^◌, ◌<◌, ◌≤◌, ◌||◌, ◌∷◌, [], length, slice_get, take, Some, None, IfOk, IfErr, IfSome, OnOk, OnErr};
+ghost use Rattle.std.specs.Prelude.{◌≡◌, ◌^◌, ◌<◌, ◌∷◌, [], ◌≤◌, length, slice_get, take, Some, IfOk, IfSome};
 ghost use Rattle.talker.specs.Frames.{sent_frame};
 ghost use Rattle.talker.specs.Turns.{frame_in};
-ghost use Rattle.am824_gateway.specs.Gateways.{IsPieceTurn, given_out};
+ghost use Rattle.am824_gateway.specs.Gateways.{IsPieceFrame, IsPieceTurn, TakesBatch};
 ghost use Rattle.am824_gateway.specs.Labels.{value_in};
-ghost use Rattle.am824_gateway.specs.Pieces.{has_labels as has_labels_by, has_shape as has_shape_by, most_frames, nothing_given, overlaps as overlaps_by, skip_of};
+ghost use Rattle.am824_gateway.specs.Pieces.{has_shape as has_shape_by, nothing_given, overlaps as overlaps_by};
 ghost use Rattle.am824_gateway.specs.Packets.{frame_size, piece_frame};
 ghost use Rattle.am824_gateway.specs.Scan.{IsShape};
-ghost use Rattle.am824_gateway.specs.state.Streams.{HasHeaders};
 
 use crate::labels::are_linear;
 use crate::packet::{AM824_HEADERS, Stream, first_headers};
-use crate::piece::{MOST_PIECES, Piece, arrival_of, cut};
+use crate::piece::{MOST_PIECES, Piece, Pieces, arrival_of, cut};
 use crate::scan::{Shape, To};
 use crate::skip::Skip;
 use avtp_base::{Bytes, NoMemory};
@@ -52,9 +51,9 @@ pub struct Gateway {
     last: Option<i64>,
     current: Option<Current>,
     /// The pieces of the last batch that was not skipped.
-    pieces: Vec<Piece>,
+    pieces: Pieces,
     /// The pieces of the next batch, until it is known that the batch is not skipped.
-    spare: Vec<Piece>,
+    spare: Pieces,
     /// The frame that the last call of `piece` wrote.
     frame: Vec<u8>,
 }
@@ -66,20 +65,9 @@ impl Model for Gateway {
 
     ghost Value = { Gating };
 
-    ghost view = { λ g. record { to = g.to; shape = g.shape; id = g.id; given = record { batches = g.batches; packets = g.packets; block = g.block; last = g.last }; frames = frames_in g.current g.pieces.items } };
+    ghost view = { λ g. record { to = g.to; shape = g.shape; id = g.id; given = record { batches = g.batches; packets = g.packets; block = g.block; last = g.last }; frames = frames_in g.current g.pieces.list.items } };
 
     ghost invariant = { IsGateway };
-}
-
-/// The headers of the frames of a stream, if the stream has a shape.
-fn headers_for(to: To, shape: Option<Shape>, id: u64) -> [u8; AM824_HEADERS]
-    requires { IfSome shape IsShape }
-    ensures { IfSome shape (λ shape. HasHeaders to shape id result) }
-{
-    match shape {
-        Some(shape) => first_headers(to, shape, id),
-        None => [0; AM824_HEADERS],
-    }
 }
 
 impl Current {
@@ -111,16 +99,6 @@ impl Current {
     }
 }
 
-/// Whether the values have no labels, or each label is that of linear audio of 24 bits.
-fn has_labels(to: To, bytes: &[u8]) -> bool
-    ensures { result ≡ has_labels_by to bytes.now }
-{
-    match to {
-        To::Am824 => true,
-        To::Aaf => are_linear(bytes),
-    }
-}
-
 /// The number of bytes of a value as it is presented.
 fn value_size(to: To) -> usize
     ensures { result ≡ value_in to }
@@ -133,12 +111,16 @@ fn value_size(to: To) -> usize
 
 /// Whether the batch consists of samples of this shape.
 fn has_shape(to: To, shape: Shape, batch: &Batch) -> bool
-    requires { IsShape shape }
     ensures { result ≡ has_shape_by to shape batch.now }
 {
     let bytes = batch.bytes.as_slice();
     let sample = value_size(to) * usize::from(shape.channels);
-    !batch.is_unit() && bytes.len() == batch.count as usize * sample && has_labels(to, bytes)
+    !batch.is_unit()
+        && bytes.len() == batch.count as usize * sample
+        && match to {
+            To::Am824 => true,
+            To::Aaf => are_linear(bytes),
+        }
 }
 
 /// Whether the batch begins at or before the instant `last`.
@@ -161,9 +143,13 @@ impl Gateway {
         requires { IfSome shape IsShape }
         ensures { IfOk result (λ gateway. gateway ≡ record { to = to; shape = shape; id = id; given = nothing_given; frames = [] }) }
     {
-        let headers = headers_for(to, shape, id);
-        let pieces = Vec::with_capacity(alloc, MOST_PIECES)?;
-        let spare = Vec::with_capacity(alloc, MOST_PIECES)?;
+        let headers = first_headers(to, shape, id);
+        let pieces = Pieces {
+            list: Vec::with_capacity(alloc, MOST_PIECES)?,
+        };
+        let spare = Pieces {
+            list: Vec::with_capacity(alloc, MOST_PIECES)?,
+        };
         let frame = vec![in alloc; 0u8; LONGEST_FRAME]?;
         Ok(Gateway {
             to,
@@ -190,11 +176,7 @@ impl Gateway {
     /// were not skipped. `Range`: a packet would arrive at 2^32 seconds or later.
     pub fn put(&mut self, batch: Batch) -> Result<u32, Skip>
         requires few { self.old.given.batches < 2 ^ 44 }
-        ensures given { OnOk result (self.new ≡ given_out self.old.shape self.old batch) }
-        ensures number { IfOk result (λ number. number ≡ length self.new.frames) }
-        ensures taken { OnOk result (skip_of self.old.to self.old.shape self.old.given batch ≡ None) }
-        ensures skip { IfErr result (λ skip. skip_of self.old.to self.old.shape self.old.given batch ≡ Some skip) }
-        ensures same { OnErr result (self.new ≡ self.old) }
+        ensures { TakesBatch batch self.old self.new result }
     {
         let Some(shape) = self.shape else {
             return Err(Skip::ShapeOff);
@@ -210,7 +192,7 @@ impl Gateway {
             return Err(Skip::Range);
         }
         std::mem::swap(&mut self.pieces, &mut self.spare);
-        let number = self.pieces.len();
+        let number = self.pieces.list.len();
         let first = self.packets;
         self.batches += 1;
         self.packets += number as u64;
@@ -252,7 +234,7 @@ impl Gateway {
         let Some(current) = &self.current else {
             unreachable!()
         };
-        let piece = self.pieces[i as usize];
+        let piece = self.pieces.list[i as usize];
         Turn {
             arrival: arrival_of(current.batch.instant(piece.first)),
             number: current.first + u64::from(i),
@@ -270,7 +252,7 @@ impl Gateway {
         let Some(current) = &self.current else {
             unreachable!()
         };
-        let piece = self.pieces[i as usize];
+        let piece = self.pieces.list[i as usize];
         current.write(piece, current.first + u64::from(i), out);
     }
 
@@ -279,7 +261,7 @@ impl Gateway {
     pub fn give_back(&mut self) -> Option<Bytes>
         ensures { self.new ≡ record self.old { frames = [] } }
     {
-        self.pieces.clear();
+        self.pieces.list.clear();
         let current = self.current.take()?;
         Some(current.batch.bytes)
     }
@@ -288,15 +270,14 @@ impl Gateway {
     /// nothing.
     pub fn piece(&mut self, i: u32) -> Sent<'_>
         requires { i < length self.old.frames }
-        ensures frame { slice_get self.old.frames i ≡ Some (sent_frame result) }
-        ensures size { length result.bytes.now ≤ 1518 }
+        ensures lent { IsPieceFrame self.old i (sent_frame result) }
         ensures* after { sem 𝓛 (EndsAs self.entry (λ last. last ≡ self.old)) }
     {
         let turn = self.turn(i);
         let Some(current) = &self.current else {
             unreachable!()
         };
-        let piece = self.pieces[i as usize];
+        let piece = self.pieces.list[i as usize];
         current.write_front(piece, turn, self.frame.as_mut_slice());
         Sent {
             arrival: turn.arrival,

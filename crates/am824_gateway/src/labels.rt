@@ -1,7 +1,9 @@
 //! The labels of AM824 (IEC 61883-6).
 
-ghost use Rattle.std.specs.Prelude.{◌≡◌, ◌+◌, ◌*◌, ◌≤◌, ◌∷◌, ◌++◌, length, take, drop};
-ghost use Rattle.am824_gateway.specs.Labels.{are_linear as are_linear_by, labelled, linear_label, turned, unlabelled, value_in, value_out};
+ghost use Rattle.std.specs.Prelude.{◌≡◌, ◌+◌, ◌≤◌, ◌++◌, length, take, drop};
+ghost use Rattle.am824_gateway.specs.Labels.{are_linear as are_linear_by, labelled, turned, unlabelled};
+ghost use Rattle.am824_gateway.specs.declared.scan.To.TheVariants.{Aaf, Am824};
+ghost use Rattle.am824_gateway.specs.state.Turning.{CanTurn};
 
 use crate::scan::To;
 
@@ -33,52 +35,31 @@ pub(crate) fn put_bytes<const N: usize>(out: &mut [u8], offset: usize, bytes: &[
     *place = *bytes;
 }
 
-/// Writes value `k` of 24 bits as a quadlet: its label, then the value.
-fn put_quadlet(out: &mut [u8], k: usize, values: &[u8])
-    requires room { 4 * k + 4 ≤ length out.old }
-    requires value { 3 * k + 3 ≤ length values.now }
-    ensures { out.new ≡ take (4 * k) out.old ++ ((linear_label ∷ take 3 (drop (3 * k) values.now)) ++ drop (4 * k + 4) out.old) }
-{
-    let value = &values[3 * k..3 * k + 3];
-    put_bytes(out, 4 * k, &[LINEAR, value[0], value[1], value[2]]);
-}
-
-/// Writes quadlet `k` as a value of 24 bits, without its label.
-fn put_value(out: &mut [u8], k: usize, quadlets: &[u8])
-    requires room { 3 * k + 3 ≤ length out.old }
-    requires value { 4 * k + 4 ≤ length quadlets.now }
-    ensures { out.new ≡ take (3 * k) out.old ++ (take 3 (drop (4 * k + 1) quadlets.now) ++ drop (3 * k + 3) out.old) }
-{
-    let value = &quadlets[4 * k + 1..4 * k + 4];
-    put_bytes(out, 3 * k, &[value[0], value[1], value[2]]);
-}
-
 /// Writes `n` values of 24 bits as quadlets, each with its label before the value.
 fn add_labels(out: &mut [u8], n: usize, values: &[u8])
-    requires room { length out.old ≡ 4 * n }
-    requires values { length values.now ≡ 3 * n }
+    requires { CanTurn Am824 n values.now out.old }
     ensures { out.new ≡ labelled n values.now }
 {
     for k in 0..n {
-        put_quadlet(out, k, values);
+        let value = &values[3 * k..3 * k + 3];
+        put_bytes(out, 4 * k, &[LINEAR, value[0], value[1], value[2]]);
     }
 }
 
 /// Writes `n` quadlets as values of 24 bits, each without its label.
 fn take_labels(out: &mut [u8], n: usize, quadlets: &[u8])
-    requires room { length out.old ≡ 3 * n }
-    requires quadlets { length quadlets.now ≡ 4 * n }
+    requires { CanTurn Aaf n quadlets.now out.old }
     ensures { out.new ≡ unlabelled n quadlets.now }
 {
     for k in 0..n {
-        put_value(out, k, quadlets);
+        let value = &quadlets[4 * k + 1..4 * k + 4];
+        put_bytes(out, 3 * k, &[value[0], value[1], value[2]]);
     }
 }
 
 /// Writes `n` values of 24 bits in the format `to`: with labels in AM824, without labels in PCM.
 pub(crate) fn turn_values(to: To, out: &mut [u8], n: usize, values: &[u8])
-    requires room { length out.old ≡ n * value_out to }
-    requires values { length values.now ≡ n * value_in to }
+    requires { CanTurn to n values.now out.old }
     ensures { out.new ≡ turned to n values.now }
 {
     match to {

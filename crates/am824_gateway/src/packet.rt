@@ -1,16 +1,13 @@
 //! The packets that carry pieces, and their frames.
 
-ghost use Rattle.std.specs.Prelude.{◌≡◌, ◌+◌, ◌*◌, ◌≤◌, ◌++◌, ℕ, List, [], length, IsSome, pos};
+ghost use Rattle.std.specs.Prelude.{◌≡◌, ◌*◌, ◌++◌, ℕ, IfSome, List, [], length, pos};
 ghost use Rattle.aaf_format.specs.Aaf.{aaf_shape};
 ghost use Rattle.iec61883_format.specs.Iec.{iec_shape};
-ghost use Rattle.packet_journal.specs.Packets.{spelling_of};
 ghost use Rattle.talk_plan.specs.Ethernet.{packet_bytes};
-ghost use Rattle.talk_plan.specs.Plan.{fdf_of as fdf_by};
-ghost use Rattle.am824_gateway.specs.Labels.{turned, value_in, value_out};
+ghost use Rattle.am824_gateway.specs.Labels.{turned, value_out};
 ghost use Rattle.am824_gateway.specs.Packets.{aaf_packet as aaf_packet_of, am824_packet as am824_packet_of, frame_size as frame_size_of, header_at as header_by, headers_of, packet_of, timestamp_at};
-ghost use Rattle.am824_gateway.specs.Pieces.{most_bytes};
 ghost use Rattle.am824_gateway.specs.Scan.{IsShape};
-ghost use Rattle.am824_gateway.specs.state.Streams.{Carries, HasHeaders, IsStream, no_samples, stated_of};
+ghost use Rattle.am824_gateway.specs.state.Streams.{HasHeaders, TakesFrame, TakesHeaders, no_samples, stated_of};
 
 use crate::labels::{put_bytes, turn_values};
 use crate::piece::Piece;
@@ -71,12 +68,8 @@ fn first_header(subtype: u8, id: u64, length: u16) -> StreamHeader
 
 /// A packet of AM824 without samples.
 fn am824_packet(shape: Shape, id: u64) -> IecView<'static>
-    requires { IsSome (fdf_by shape.rate) }
     ensures { iec_shape result ≡ am824_packet_of shape (header_by 0 id 0 (pos 0) 8) no_samples [] }
 {
-    let Some(fdf) = fdf_of(shape.rate) else {
-        unreachable!()
-    };
     IecView {
         header: first_header(subtype::IEC_61883, id, 8),
         gateway_info: 0,
@@ -87,7 +80,7 @@ fn am824_packet(shape: Shape, id: u64) -> IecView<'static>
             sid: 63,
             dbs: shape.channels,
             dbc: 0,
-            fdf,
+            fdf: fdf_of(shape.rate).unwrap_or(0),
             syt: 0xffff,
         },
         count: 0,
@@ -98,7 +91,6 @@ fn am824_packet(shape: Shape, id: u64) -> IecView<'static>
 
 /// A packet of PCM without samples.
 fn aaf_packet(shape: Shape, id: u64) -> AafView<'static>
-    requires { IsSome (fdf_by shape.rate) }
     ensures { aaf_shape result ≡ aaf_packet_of shape (header_by 2 id 0 (pos 0) 0) no_samples [] }
 {
     AafView {
@@ -112,26 +104,6 @@ fn aaf_packet(shape: Shape, id: u64) -> AafView<'static>
         count: 0,
         payload: &[],
         reserved: false,
-    }
-}
-
-/// Writes a packet without samples.
-fn write_packet(out: &mut [u8], to: To, shape: Shape, id: u64)
-    requires shape { IsShape shape }
-    requires room { length out.old + 18 ≡ headers_of to }
-    ensures { out.new ≡ spelling_of (packet_of to shape id 0 (pos 0) no_samples []) }
-{
-    match to {
-        To::Am824 => {
-            let Ok(_) = write_iec(out, &am824_packet(shape, id)) else {
-                unreachable!()
-            };
-        }
-        To::Aaf => {
-            let Ok(_) = write_aaf(out, &aaf_packet(shape, id)) else {
-                unreachable!()
-            };
-        }
     }
 }
 
@@ -160,16 +132,31 @@ fn write_frame(out: &mut [u8], to: To, shape: Shape, id: u64)
     ensures { out.new ≡ packet_bytes (packet_of to shape id 0 (pos 0) no_samples []) }
 {
     write_ethernet(&mut out[..ETHERNET_HEADER]);
-    write_packet(&mut out[ETHERNET_HEADER..], to, shape, id);
+    let packet = &mut out[ETHERNET_HEADER..];
+    match to {
+        To::Am824 => {
+            let Ok(_) = write_iec(packet, &am824_packet(shape, id)) else {
+                unreachable!()
+            };
+        }
+        To::Aaf => {
+            let Ok(_) = write_aaf(packet, &aaf_packet(shape, id)) else {
+                unreachable!()
+            };
+        }
+    }
 }
 
-/// The headers of a frame without samples. The headers of PCM are shorter, and zeros follow them.
-pub(crate) fn first_headers(to: To, shape: Shape, id: u64) -> [u8; AM824_HEADERS]
-    requires { IsShape shape }
-    ensures { HasHeaders to shape id result }
+/// The headers of a frame without samples, if the stream has a shape. The headers of PCM are shorter, and zeros follow
+/// them.
+pub(crate) fn first_headers(to: To, shape: Option<Shape>, id: u64) -> [u8; AM824_HEADERS]
+    requires { IfSome shape IsShape }
+    ensures { IfSome shape (λ shape. HasHeaders to shape id result) }
 {
     let mut headers = [0; AM824_HEADERS];
-    write_frame(&mut headers[..headers_size(to)], to, shape, id);
+    if let Some(shape) = shape {
+        write_frame(&mut headers[..headers_size(to)], to, shape, id);
+    }
     headers
 }
 
@@ -184,29 +171,17 @@ impl Stream {
         }
     }
 
-    /// The number of bytes of a piece's samples as they are sent.
-    #[tactic(auto, using(crate::proofs::PieceLemmas::fits))]
-    fn samples_size(&self, piece: Piece) -> usize
-        requires { Carries self.now piece }
-        ensures value { result ≡ piece.count * (value_out self.now.to * self.now.shape.channels) }
-        ensures bound { result ≤ most_bytes self.now.to }
-    {
-        piece.count as usize * (self.value_size() * usize::from(self.shape.channels))
-    }
-
     /// The length of a piece's frame.
     pub fn frame_size(&self, piece: Piece) -> usize
-        requires { Carries self.now piece }
-        ensures value { result ≡ frame_size_of self.now.to self.now.shape piece }
-        ensures bound { result ≤ 1518 }
+        ensures { result ≡ frame_size_of self.now.to self.now.shape piece }
     {
-        headers_size(self.to) + self.samples_size(piece)
+        headers_size(self.to)
+            + piece.count as usize * (self.value_size() * usize::from(self.shape.channels))
     }
 
     /// Writes the headers of a frame without samples.
     fn write_first(&self, out: &mut [u8])
-        requires stream { IsStream self.now }
-        requires room { length out.old ≡ headers_of self.now.to }
+        requires { TakesHeaders self.now out.old }
         ensures { out.new ≡ packet_bytes (packet_of self.now.to self.now.shape self.now.id 0 (pos 0) no_samples []) }
     {
         match self.to {
@@ -223,8 +198,7 @@ impl Stream {
     /// Writes the headers of packet `n`, which carries `piece`. The piece's first sample is presented at `instant`.
     /// `stated` is the number of bytes after the stream header.
     fn write_headers(&self, out: &mut [u8], n: u64, instant: i64, piece: Piece, stated: u16)
-        requires stream { IsStream self.now }
-        requires room { length out.old ≡ headers_of self.now.to }
+        requires headers { TakesHeaders self.now out.old }
         requires stated { stated ≡ stated_of self.now.to self.now.shape piece }
         ensures { (samples : List ℕ) → out.new ++ samples ≡ packet_bytes (packet_of self.now.to self.now.shape self.now.id n instant piece samples) }
     {
@@ -242,9 +216,7 @@ impl Stream {
     /// Writes the frame of packet `n`, which carries `piece` with these values. The piece's first sample is presented
     /// at `instant`.
     pub fn write(&self, out: &mut [u8], n: u64, instant: i64, piece: Piece, values: &[u8])
-        requires carries { Carries self.now piece }
-        requires values { length values.now ≡ piece.count * (value_in self.now.to * self.now.shape.channels) }
-        requires room { length out.old ≡ frame_size_of self.now.to self.now.shape piece }
+        requires { TakesFrame self.now piece values.now out.old }
         ensures { out.new ≡ packet_bytes (packet_of self.now.to self.now.shape self.now.id n instant piece (turned self.now.to (piece.count * self.now.shape.channels) values.now)) }
     {
         let stated = (out.len() - AAF_HEADERS) as u16;

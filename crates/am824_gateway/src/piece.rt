@@ -3,11 +3,10 @@
 ghost use Rattle.std.specs.Prelude.{◌≡◌, ◌+◌, ◌≤◌, ◌<◌, ◌||◌, int_le, pos, ◌+ℤ◌, [], ◌∷◌, ◌++◌, true, vec_len, vec_capacity};
 ghost use Rattle.std.specs.Ordering.{int_eq};
 ghost use Rattle.iec61883_format.specs.Iec.{IsSytInterval};
-ghost use Rattle.talk_plan.specs.Timing.{nominal_offset as nominal_offset_of};
+ghost use Rattle.talk_plan.specs.Timing.{nominal_offset};
 ghost use Rattle.am824_gateway.specs.Pieces.{arrival_at, captures_end, most_frames as most_frames_of, next_block as next_block_of};
 ghost use Rattle.am824_gateway.specs.Scan.{IsShape};
 ghost use Rattle.am824_gateway.specs.state.Cutting.{BeginsPiece, CountsPiece, CutsBatch, IsOnePiece};
-ghost use Rattle.time_unfold.specs.Time.{IsInstant};
 
 use crate::rates::interval_of;
 use crate::scan::{Shape, To};
@@ -24,6 +23,13 @@ pub struct Piece {
     pub block: u8,
 }
 
+/// The pieces of a batch, with room for the pieces of any batch.
+#[derive(Drop)]
+pub(crate) struct Pieces {
+    pub list: Vec<Piece>,
+    ghost room: { 65535 ≤ vec_capacity list },
+}
+
 /// The maximum number of pieces in a batch. A batch has at most this many samples, and each piece has at least one
 /// sample.
 pub(crate) const MOST_PIECES: usize = 65_535;
@@ -37,59 +43,50 @@ const TRANSIT: i64 = 2_000_000;
 /// 2^32 seconds, in nanoseconds. A capture cannot state an arrival at or after `CAPTURES_END`.
 const CAPTURES_END: i64 = (1 << 32) * 1_000_000_000;
 
-/// The time from sample 0 to sample `k` at a nominal rate, in nanoseconds.
-fn nominal_offset(rate: u32, k: u32) -> u64
-    requires { 1 ≤ rate }
-    ensures value { result ≡ nominal_offset_of rate k }
-{
-    u64::from(k) * NANOSECONDS / u64::from(rate)
-}
-
 /// The arrival of a packet in nanoseconds of gPTP. The packet's first sample is presented at `instant`.
 pub(crate) fn arrival_of(instant: i64) -> i64
-    requires { IsInstant instant }
-    ensures value { result ≡ arrival_at instant }
+    ensures { result ≡ arrival_at instant }
 {
-    (instant - TRANSIT).max(0)
+    instant.saturating_sub(TRANSIT).max(0)
 }
 
 /// The result is true in two cases: `late` is true, or a packet would arrive at a time that a capture cannot state.
 /// That packet's first sample is presented at `instant`.
 fn is_late_with(late: bool, instant: i64) -> bool
-    requires { IsInstant instant }
     ensures { result ≡ (late || int_le (pos captures_end) (arrival_at instant)) }
 {
     late || arrival_of(instant) >= CAPTURES_END
 }
 
 /// The maximum number of sample frames in a packet.
-fn most_frames(to: To, channels: u16) -> u32
-    requires some { 1 ≤ channels }
-    requires most { channels ≤ 256 }
-    ensures value { result ≡ most_frames_of to channels }
-    ensures some { 1 ≤ result }
+fn most_frames(to: To, shape: Shape) -> u32
+    requires { IsShape shape }
+    ensures { result ≡ most_frames_of to shape.channels }
 {
     let (bytes, value) = match to {
         To::Am824 => (1468, 4),
         To::Aaf => (1476, 3),
     };
-    bytes / (value * u32::from(channels))
+    bytes / (value * u32::from(shape.channels))
 }
 
 /// The block count of the next packet, after a packet with the block count `block` and `count` data blocks.
 fn next_block(interval: u32, block: u8, count: u32) -> u8
-    requires interval { IsSytInterval interval }
-    requires count { count ≤ 65535 }
+    requires { IsSytInterval interval }
     ensures { result ≡ next_block_of interval block count }
 {
-    let counted = u32::from(block) + count;
+    let counted = u64::from(block) + u64::from(count);
+    let interval = u64::from(interval);
     (counted.div_ceil(interval) * interval % 256) as u8
 }
 
-/// Whether a sample that is presented at `instant` is at its nominal instant, which is `offset` after `start`.
-fn is_on_line(instant: i64, start: i64, offset: u64) -> bool
-    ensures { result ≡ int_eq instant (start +ℤ pos offset) }
+/// Whether sample `k` of a piece is presented at its nominal instant. The sample is presented at `instant`, and sample 0
+/// of the piece at `start`.
+fn is_on_line(instant: i64, start: i64, rate: u32, k: u32) -> bool
+    requires { 1 ≤ rate }
+    ensures { result ≡ int_eq instant (start +ℤ pos (nominal_offset rate k)) }
 {
+    let offset = u64::from(k) * NANOSECONDS / u64::from(rate);
     i128::from(instant) == i128::from(start) + i128::from(offset)
 }
 
@@ -102,7 +99,7 @@ fn count_piece(instant: &mut Instant, batch: &Batch, rate: u32, most: u32) -> u3
     let limit = most.min(batch.count - instant.j);
     let mut count = 1;
     instant.next(batch);
-    while count < limit && is_on_line(instant.nanoseconds, start, nominal_offset(rate, count)) {
+    while count < limit && is_on_line(instant.nanoseconds, start, rate, count) {
         count += 1;
         instant.next(batch);
     }
@@ -118,22 +115,14 @@ fn is_one_piece(to: To, shape: Shape, batch: &Batch) -> bool
     batch.from == 0
         && batch.line.num == NANOSECONDS
         && batch.line.den == u64::from(shape.rate)
-        && batch.count <= most_frames(to, shape.channels)
+        && batch.count <= most_frames(to, shape)
 }
 
 /// Cuts a batch into pieces; the first piece has the block count `block`. Returns two values: the block count of the
 /// next packet, and whether the packet of some piece would arrive at a time that a capture cannot state.
-pub(crate) fn cut(
-    pieces: &mut Vec<Piece>,
-    to: To,
-    shape: Shape,
-    batch: &Batch,
-    block: u8,
-) -> (u8, bool)
-    requires room { 65535 ≤ vec_capacity pieces.old }
-    requires shape { IsShape shape }
-    ensures cuts { CutsBatch to shape batch.now block pieces.new.items result.0 result.1 }
-    ensures capacity { vec_capacity pieces.old ≤ vec_capacity pieces.new }
+pub(crate) fn cut(pieces: &mut Pieces, to: To, shape: Shape, batch: &Batch, block: u8) -> (u8, bool)
+    requires { IsShape shape }
+    ensures { CutsBatch to shape batch.now block pieces.new.list.items result.0 result.1 }
 {
     if is_one_piece(to, shape, batch) {
         cut_once(pieces, to, shape, batch, block)
@@ -143,15 +132,12 @@ pub(crate) fn cut(
 }
 
 /// Replaces `pieces` by the only piece of a batch.
-fn cut_once(pieces: &mut Vec<Piece>, to: To, shape: Shape, batch: &Batch, block: u8) -> (u8, bool)
-    requires room { 65535 ≤ vec_capacity pieces.old }
-    requires shape { IsShape shape }
-    requires one { IsOnePiece to shape batch.now }
-    ensures cuts { CutsBatch to shape batch.now block pieces.new.items result.0 result.1 }
-    ensures capacity { vec_capacity pieces.old ≤ vec_capacity pieces.new }
+fn cut_once(pieces: &mut Pieces, to: To, shape: Shape, batch: &Batch, block: u8) -> (u8, bool)
+    requires { IsOnePiece to shape batch.now }
+    ensures { CutsBatch to shape batch.now block pieces.new.list.items result.0 result.1 }
 {
     let count = batch.count;
-    pieces.clear();
+    pieces.list.clear();
     push(
         pieces,
         Piece {
@@ -167,23 +153,21 @@ fn cut_once(pieces: &mut Vec<Piece>, to: To, shape: Shape, batch: &Batch, block:
 /// Replaces `pieces` by the pieces of any batch. Computes the instant of each sample from the instant of the previous
 /// sample.
 fn cut_by_instants(
-    pieces: &mut Vec<Piece>,
+    pieces: &mut Pieces,
     to: To,
     shape: Shape,
     batch: &Batch,
     block: u8,
 ) -> (u8, bool)
-    requires room { 65535 ≤ vec_capacity pieces.old }
-    requires shape { IsShape shape }
-    ensures cuts { CutsBatch to shape batch.now block pieces.new.items result.0 result.1 }
-    ensures capacity { vec_capacity pieces.old ≤ vec_capacity pieces.new }
+    requires { IsShape shape }
+    ensures { CutsBatch to shape batch.now block pieces.new.list.items result.0 result.1 }
 {
-    let most = most_frames(to, shape.channels);
+    let most = most_frames(to, shape);
     let interval = interval_of(shape.rate);
     let mut instant = Instant::first(batch);
     let mut next = block;
     let mut late = false;
-    pieces.clear();
+    pieces.list.clear();
     while instant.j < batch.count {
         let first = instant.j;
         late = is_late_with(late, instant.nanoseconds);
@@ -201,13 +185,12 @@ fn cut_by_instants(
     (next, late)
 }
 
-/// Adds a piece. The vector must have room for the piece.
-fn push(pieces: &mut Vec<Piece>, piece: Piece)
-    requires { vec_len pieces.old < vec_capacity pieces.old }
-    ensures items { pieces.new.items ≡ pieces.old.items ++ piece ∷ [] }
-    ensures capacity { vec_capacity pieces.old ≤ vec_capacity pieces.new }
+/// Adds a piece of a batch.
+fn push(pieces: &mut Pieces, piece: Piece)
+    requires { vec_len pieces.old.list < 65535 }
+    ensures { pieces.new.list.items ≡ pieces.old.list.items ++ piece ∷ [] }
 {
-    let Ok(()) = pieces.push(piece) else {
+    let Ok(()) = pieces.list.push(piece) else {
         unreachable!()
     };
 }

@@ -1,7 +1,6 @@
 //! The codes of the sample rates that both formats have.
 
-ghost use Rattle.std.specs.Prelude.{◌≡◌, ◌≤◌, IsSome, unwrap_or};
-ghost use Rattle.iec61883_format.specs.Iec.{IsSytInterval};
+ghost use Rattle.std.specs.Prelude.{◌≡◌, unwrap_or};
 ghost use Rattle.talk_plan.specs.Plan.{fdf_of as fdf_by, interval_of as interval_by, rate_code};
 
 /// The code (FDF) of a sample rate in Hz, if IEC 61883-6 has one.
@@ -20,11 +19,10 @@ pub(crate) fn fdf_of(rate: u32) -> Option<u8>
     })
 }
 
-/// SYT_INTERVAL at a sample rate that IEC 61883-6 has. One in this many data blocks has a timestamp.
+/// SYT_INTERVAL at a sample rate in Hz, and 8 if IEC 61883-6 does not have the rate. One in this many data blocks has a
+/// timestamp.
 pub(crate) fn interval_of(rate: u32) -> u32
-    requires { IsSome (fdf_by rate) }
-    ensures value { result ≡ interval_by rate }
-    ensures is { IsSytInterval result }
+    ensures { result ≡ interval_by rate }
 {
     match rate {
         88_200 | 96_000 => 16,
@@ -33,19 +31,21 @@ pub(crate) fn interval_of(rate: u32) -> u32
     }
 }
 
-/// The code, in AAF, of a sample rate that IEC 61883-6 has (IEEE 1722-2016, 7).
+/// The code, in AAF, of a sample rate in Hz, and 0 if AAF does not have the rate (IEEE 1722-2016, 7).
 pub(crate) fn nsr_of(rate: u32) -> u8
-    requires { IsSome (fdf_by rate) }
-    ensures value { result ≡ unwrap_or (rate_code rate) 0 }
-    ensures few { result ≤ 10 }
+    ensures { result ≡ unwrap_or (rate_code rate) 0 }
 {
     match rate {
+        8_000 => 1,
+        16_000 => 2,
         32_000 => 3,
         44_100 => 4,
         48_000 => 5,
         88_200 => 6,
         96_000 => 7,
         176_400 => 8,
-        _ => 9,
+        192_000 => 9,
+        24_000 => 10,
+        _ => 0,
     }
 }

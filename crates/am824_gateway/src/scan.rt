@@ -2,7 +2,7 @@
 
 ghost use Rattle.std.specs.Prelude.{◌≡◌, ◌≤◌, ◌++◌, ◌∷◌, [], ℕ, suc, List, length, Some, IfSome, IfErr, OnOk};
 ghost use Rattle.pcap_frames.specs.Capture.{Record};
-ghost use Rattle.am824_gateway.specs.Scan.{HasScanned, IsShape, fault_rows, first_fault, first_of, other_rate, shape_in, shape_of};
+ghost use Rattle.am824_gateway.specs.Scan.{HasScanned, IsShape, fault_rows, first_fault, first_of, shape_in};
 ghost use Rattle.am824_gateway.specs.state.Noting.{NotesSamples};
 
 use crate::content::{Content, Samples, content_of};
@@ -62,13 +62,6 @@ impl Model for Scan {
     ghost invariant = { λ s. IfSome s.shape IsShape };
 }
 
-/// Whether IEC 61883-6 lacks this sample rate, or the rate differs from that of the first packet.
-fn is_other_rate(first: Shape, rate: u32) -> bool
-    ensures { result ≡ other_rate first rate }
-{
-    fdf_of(rate).is_none() || rate != first.rate
-}
-
 /// The first fault of a packet of samples. `first` is the shape of the stream's first packet of samples.
 fn fault_of(to: To, first: Shape, samples: &Samples) -> Option<ScanFault>
     ensures { result ≡ first_of (fault_rows to first samples.now) }
@@ -79,7 +72,7 @@ fn fault_of(to: To, first: Shape, samples: &Samples) -> Option<ScanFault>
     if !samples.whole {
         return Some(ScanFault::Format);
     }
-    if is_other_rate(first, samples.rate) {
+    if fdf_of(samples.rate).is_none() || samples.rate != first.rate {
         return Some(ScanFault::Rate);
     }
     if samples.channels > 256 || samples.channels != first.channels {
@@ -89,17 +82,6 @@ fn fault_of(to: To, first: Shape, samples: &Samples) -> Option<ScanFault>
         return Some(ScanFault::Label);
     }
     None
-}
-
-impl Samples {
-    fn shape(&self) -> Shape
-        ensures { result ≡ shape_of self.now }
-    {
-        Shape {
-            rate: self.rate,
-            channels: self.channels,
-        }
-    }
 }
 
 impl Scan {
@@ -136,7 +118,10 @@ impl Scan {
         requires { 1 ≤ samples.now.channels }
         ensures { NotesSamples self.old self.new samples.now result }
     {
-        let first = self.shape.unwrap_or(samples.shape());
+        let first = self.shape.unwrap_or(Shape {
+            rate: samples.rate,
+            channels: samples.channels,
+        });
         if let Some(fault) = fault_of(self.to, first, samples) {
             return Err(fault);
         }

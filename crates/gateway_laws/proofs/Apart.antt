@@ -17,7 +17,7 @@ use Rattle.am824_gateway.specs.state.Kept.{IsWithin}
 use Rattle.am824_gateway.proofs.CutLemmas.{BeginsFrom, after_all, begin_from, cuts_begin, given_is, later, not_earlier}
 use Rattle.am824_gateway.proofs.GatewayLemmas.{all_within}
 use Rattle.am824_gateway.proofs.PieceLemmas.{counted}
-use Rattle.am824_gateway.proofs.SampleLemmas.{counted_at}
+use Rattle.gateway_laws.proofs.SampleLemmas.{counted_at}
 
 -- the instant of the last sample of a piece, counted at the nominal rate from the piece's first sample
 abbrev pub end_of : Shape → Cut → ℤ

@@ -20,10 +20,10 @@ use Rattle.am824_gateway.specs.Labels.{value_out}
 use Rattle.am824_gateway.specs.Laws.{Cut, HasRisingInstants, cut_instant, cuts_after, given_batches}
 use Rattle.am824_gateway.specs.Packets.{samples_of}
 use Rattle.am824_gateway.specs.Pieces.{Given}
-use Rattle.am824_gateway.specs.Samples.{Sample, packet_samples, part, samples_presented, samples_sent, values_out}
+use Rattle.gateway_laws.specs.Samples.{Sample, packet_samples, part, samples_presented, samples_sent, values_out}
 use Rattle.am824_gateway.specs.Scan.{IsShape}
 use Rattle.am824_gateway.proofs.CutLemmas.{rise_all}
-use Rattle.am824_gateway.proofs.SampleLemmas.{all_kept}
+use Rattle.gateway_laws.proofs.SampleLemmas.{all_kept}
 use Rattle.gateway_laws.specs.Carried.{CarriesCut, CarryCuts, heard_from, samples_heard}
 use Rattle.gateway_laws.specs.InOrder.{IsNotFull}
 use Rattle.gateway_laws.specs.Stamped.{AreStamped, all_counted, counted_from_first, packet_entries}

@@ -1,3 +1,5 @@
+pub mod ValueLemmas
+pub mod SampleLemmas
 pub mod InOrder
 pub mod Stamped
 pub mod Carried
@@ -7,7 +9,9 @@ pub mod Read
 pub mod Delivered
 pub mod Kept
 pub mod Room
+pub mod Accepted
 pub mod Timely
+pub mod Shaped
 pub mod Apart
 pub mod Scanned
 pub mod Returned

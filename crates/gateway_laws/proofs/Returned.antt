@@ -29,7 +29,7 @@ use Rattle.am824_gateway.specs.Scan.{IsShape, shape_in}
 use Rattle.am824_gateway.proofs.CutLemmas.{frames_are_cuts}
 use Rattle.am824_gateway.proofs.GatewayLemmas.{length_values}
 use Rattle.am824_gateway.proofs.PieceLemmas.{fits, late_one, one_piece, some_rate}
-use Rattle.am824_gateway.proofs.ValueLemmas.{back}
+use Rattle.gateway_laws.proofs.ValueLemmas.{back}
 use Rattle.gateway_laws.specs.Heard.{BeginsInTime, packet_heard, packets_heard}
 use Rattle.gateway_laws.specs.Kept.{Hears}
 use Rattle.gateway_laws.specs.Returned.{frames_made, gateway_records, other}
@@ -158,7 +158,7 @@ heard_start : (to : To) (shape : Shape) (i : ℕ) (c : Cut) → IsShape shape �
 heard_start to shape i c is = starts_at (packet_heard to shape i c) (cut_instant c) (some_rate shape is)
 
 heard_pieces : (to : To) (shape : Shape) (i : ℕ) (c : Cut) (block : ℕ) → IsShape shape → IsCarried to shape c → HasRoom (other to) shape c → pieces_of (other to) shape (heard_of to shape i c) block ≡ piece_of c block ∷ []
-heard_pieces to shape i c block is fine room = one_piece (other to) shape (heard_of to shape i c) block (record { begun = refl; num = refl; den = refl; fits = room }) (some_rate shape is) fine.within.some
+heard_pieces to shape i c block is fine room = one_piece (other to) shape (heard_of to shape i c) block (record { known = is; begun = refl; num = refl; den = refl; fits = room }) fine.within.some
 
 -- if `last` states an instant, all instants of the list are after `last`
 abbrev IsOver : Option ℤ → List ℤ → Type 0

@@ -7,7 +7,7 @@ use Rattle.am824_gateway.specs.declared.scan.To.{To}
 use Rattle.am824_gateway.specs.Labels.{value_out}
 use Rattle.am824_gateway.specs.Laws.{Cut, cut_instant}
 use Rattle.am824_gateway.specs.Packets.{samples_of}
-use Rattle.am824_gateway.specs.Samples.{Sample, part, values_out}
+use Rattle.gateway_laws.specs.Samples.{Sample, part, values_out}
 use Rattle.gateway_laws.specs.Stamped.{IsStamped}
 
 -- The packet carries piece c: the packet has the piece's samples at the stream's rate, and its timestamp is that of the

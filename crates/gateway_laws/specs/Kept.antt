@@ -19,7 +19,7 @@ use Rattle.am824_gateway.specs.declared.scan.To.{To}
 use Rattle.am824_gateway.specs.Laws.{given_batches}
 use Rattle.am824_gateway.specs.Packets.{gateway_frames}
 use Rattle.am824_gateway.specs.Pieces.{nothing_given}
-use Rattle.am824_gateway.specs.Samples.{samples_presented}
+use Rattle.gateway_laws.specs.Samples.{samples_presented}
 use Rattle.gateway_laws.specs.Carried.{samples_heard}
 use Rattle.gateway_laws.specs.InOrder.{IsNotFull}
 use Rattle.gateway_laws.specs.Noted.{nothing_found}

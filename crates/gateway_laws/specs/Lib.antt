@@ -6,3 +6,6 @@ pub mod Noted
 pub mod Kept
 pub mod Returned
 pub mod Room
+pub mod Presented
+pub mod Samples
+pub mod Shaped

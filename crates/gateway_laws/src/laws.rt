@@ -1,7 +1,7 @@
 //! Laws about what listeners present from the captures that a gateway makes. Each law is the contract of a function; a
 //! call of the function does nothing.
 
-ghost use Rattle.std.specs.Prelude.{◌≡◌, ◌%◌, ◌^◌, ◌<◌, ◌≤◌, ◌∷◌, ◌++◌, ℕ, ℤ, IfSome, List, None, Option, Some, false, length, map};
+ghost use Rattle.std.specs.Prelude.{◌≡◌, ◌≢◌, ◌%◌, ◌^◌, ◌<◌, ◌≤◌, ◌∷◌, ◌++◌, ℕ, ℤ, IfSome, List, None, Option, Some, false, length, map};
 ghost use Rattle.am824_gateway.specs.Laws.{Cut};
 ghost use Rattle.gateway_laws.specs.Noted.{cut_seen, nothing_found};
 ghost use Rattle.sequence_track.specs.Findings.{findings};
@@ -21,18 +21,19 @@ ghost use Rattle.am824_gateway.specs.declared.scan.Shape.{Shape as ShapeValue};
 ghost use Rattle.am824_gateway.specs.declared.scan.To.{To as ToValue};
 ghost use Rattle.am824_gateway.specs.Laws.{HasRisingInstants, Rise, cuts_after, given_batches};
 ghost use Rattle.am824_gateway.specs.Packets.{gateway_frames};
-ghost use Rattle.am824_gateway.specs.Pieces.{Given as GivenOut};
-ghost use Rattle.am824_gateway.specs.Samples.{samples_presented};
+ghost use Rattle.am824_gateway.specs.Pieces.{Given as GivenOut, skip_of};
+ghost use Rattle.am824_gateway.specs.declared.skip.Skip.TheVariants.{ShapeOff};
+ghost use Rattle.gateway_laws.specs.Samples.{samples_presented, samples_sent};
 ghost use Rattle.am824_gateway.specs.Scan.{IsShape, first_fault, shape_in};
 ghost use Rattle.gateway_laws.specs.Carried.{CarryCuts, samples_heard};
 ghost use Rattle.gateway_laws.specs.InOrder.{AreInOrder, IsNotFull};
 ghost use Rattle.am824_gateway.specs.declared.scan.To.TheVariants.{Aaf, Am824};
 ghost use Rattle.gateway_laws.specs.Kept.{Hears, Keeps};
+ghost use Rattle.gateway_laws.specs.Presented.{HoldsOfBatches};
+ghost use Rattle.gateway_laws.specs.Shaped.{IsShapedAs};
 ghost use Rattle.gateway_laws.specs.Returned.{frames_made, gateway_records, other};
 ghost use Rattle.gateway_laws.specs.Room.{ArePacketsSpread, HasDefaultRoom};
 ghost use Rattle.listener.specs.declared.plan.ListenPlan.{ListenPlan};
-ghost use Rattle.listener.specs.Heard.{due_of, shown_of};
-ghost use Rattle.listener.specs.Laws.{presented_of};
 ghost use Rattle.pcap_frames.specs.Capture.{Record};
 ghost use Rattle.gateway_laws.specs.Stamped.{AreStamped, all_counted, packet_entries};
 
@@ -50,6 +51,14 @@ pub fn items_in_order_are_presented()
 pub fn stamped_packets_in_order_are_presented()
     ensures { (clock : Clock) (plan : SchedulePlan) (packets : List Packet) (instants : List ℤ) → plan.clock ≡ false → AreStamped packets instants → Rise instants
         → AllByRecursion IsNotFull (shown clock plan (packet_entries packets)) → map (λ (a : Accepted). a.batch) (presented (given clock plan (packet_entries packets))) ≡ all_counted packets instants }
+{}
+
+/// No value and no instant changes. Suppose that the instants of each packet's samples are counted from the packet's
+/// timestamp at the nominal rate. Then the samples of all packets are those of the batches that are not skipped: in
+/// order, with the same values at the same instants.
+pub fn samples_are_kept()
+    ensures { (to : ToValue) (shape : ShapeValue) (given_before : GivenOut) (batches : List Presented) → IsShape shape →
+        flat_map (samples_sent to shape) (cuts_after to shape given_before batches) ≡ flat_map (samples_presented to shape) (given_batches to shape given_before batches) }
 {}
 
 /// Let packets carry the pieces of batches whose instants rise. If a listener has no clock and its buffer is never
@@ -99,8 +108,15 @@ pub fn default_buffers_are_never_full()
 /// for any records, with or without a clock. The law also holds for the batches that are already certain to be
 /// presented, whatever records follow.
 pub fn presented_batches_begin_in_time()
-    ensures shown { (plan : ListenPlan) (records : List Record) → AllByRecursion BeginsInTime (presented_of (shown_of plan records)) }
-    ensures due { (plan : ListenPlan) (records : List Record) → AllByRecursion BeginsInTime (presented_of (due_of plan records)) }
+    ensures { (plan : ListenPlan) (records : List Record) → HoldsOfBatches BeginsInTime plan records }
+{}
+
+/// If a scan finds no fault in the records, each batch that a listener presents from these records has the shape that
+/// the scan finds. Hence a gateway never skips one of these batches for its shape. If the stream has no shape, nothing
+/// is presented.
+pub fn presented_batches_have_the_shape()
+    ensures held { (to : ToValue) (plan : ListenPlan) (records : List Record) → first_fault to plan.stream records ≡ None → HoldsOfBatches (IsShapedAs to (shape_in plan.stream records)) plan records }
+    ensures kept { (to : ToValue) (shape : Option ShapeValue) (given : GivenOut) (batch : Presented) → IsShapedAs to shape batch → skip_of to shape given batch ≢ Some ShapeOff }
 {}
 
 /// The capture that a gateway made can be converted back, whatever the batches. A scan for the other format finds no

@@ -20,7 +20,7 @@ use Rattle.am824_gateway.specs.declared.scan.Shape.{Shape}
 use Rattle.am824_gateway.specs.declared.scan.To.{To}
 use Rattle.am824_gateway.specs.Laws.{given_batches}
 use Rattle.am824_gateway.specs.Pieces.{Given, arrival_at, captures_end, given_with, has_shape, is_late, next_block, nothing_given, overlaps, piece_count, pieces_from, skip_by, transit}
-use Rattle.am824_gateway.specs.Shaped.{IsShapedAs}
+use Rattle.gateway_laws.specs.Shaped.{IsShapedAs}
 use Rattle.gateway_laws.specs.Heard.{BeginsInTime}
 use Rattle.gateway_laws.specs.Kept.{SkipsNone}
 use Rattle.gateway_laws.proofs.Timely.{shown_in_time}

@@ -1,10 +1,10 @@
 -- Plans and captures that meet the premises.
-use Rattle.std.proofs.Common.{◌≡◌, ◌≢◌, ℕ, ◌+◌, ◌<◌, ◌≤◌, zero, suc, Bool, true, false, List, [], ◌∷◌, length, filter, None, inl, refl, arith}
+use Rattle.std.proofs.Common.{◌≡◌, ◌≢◌, ℕ, ◌+◌, ◌<◌, ◌≤◌, zero, suc, Bool, true, false, List, [], ◌∷◌, length, filter, inl, refl, arith}
 use Rattle.std.specs.Prelude.{nat_le}
 use Rattle.std.proofs.lemmas.List.Sums.{count_by-le-length, length-filter}
 use Rattle.std.proofs.lemmas.Int.{ints}
 use Rattle.std.proofs.lemmas.List.Elements.{All-cons, All-nil}
-use Rattle.talk_plan.specs.Plan.{IsAudioPlan, IsClockPlan, most_input}
+use Rattle.talk_plan.specs.Plan.{IsAudioPlan, most_input}
 use Rattle.avtp_base.specs.Octets.{bits}
 use Rattle.cvf_format.specs.AnnexB.{units_from}
 use Rattle.talk_video.specs.Fragments.{part_by}
@@ -13,8 +13,7 @@ use Rattle.talker.specs.Examples.{six_blocks}
 use Rattle.talker.specs.Journal.{journal, stream_of}
 use Rattle.talk_plan.specs.Timing.{first_instant, nominal_instant}
 use Rattle.talked_presented.specs.Anywhere.{MustBePresented, UnitMustBePresented}
-use Rattle.talked_presented.specs.Clocked.{HasDefaultClock}
-use Rattle.talked_presented.specs.Examples.{blocking, one_unit, plain, silence, six_points, thirty, with_clock}
+use Rattle.talked_presented.specs.Examples.{one_unit, plain, silence, thirty}
 use Rattle.talked_presented.proofs.Sent.{due_before}
 use Rattle.talked_presented.specs.Whole.{HasDefaultLead, IsDefaultVideo, default_listener}
 
@@ -60,60 +59,6 @@ blocks_plan = record {
 
 pub blocks_fit : (input : List ℕ) → length input ≤ most_input → HasDefaultLead (six_blocks 48000) input
 blocks_fit input limit = record { talked = blocks_plan; id = omega arith; limit = limit; alone = refl; lead = refl; heads = refl }
-
-six_points_fit : (count : ℕ) → IsClockPlan six_points 48000 count None
-six_points_fit count = record {
-  id = omega arith;
-  some_rate = omega arith;
-  most_rate = omega arith;
-  pull = omega arith;
-  some_interval = omega arith;
-  most_interval = omega arith;
-  some_points = omega arith;
-  most_points = omega arith;
-  whole = refl;
-  runs = tt;
-}
-
-clocked_plan : IsAudioPlan with_clock
-clocked_plan = record {
-  kind = tt;
-  rate = refl;
-  some_channels = omega arith;
-  channels = omega arith;
-  some_count = omega arith;
-  count = omega arith;
-  fits = omega arith;
-  started = omega (arith, ints);
-  start = omega (arith, ints);
-  some_lead = omega arith;
-  lead = omega arith;
-  restart = tt;
-  crf = six_points_fit 6;
-}
-
-pub clock_fits : (input : List ℕ) → length input ≤ most_input → HasDefaultClock with_clock six_points input
-clock_fits input limit = record { talked = clocked_plan; id = omega arith; limit = limit; stamps = tt; steady = refl; crf_is = refl; lead = refl }
-
-blocking_plan : IsAudioPlan blocking
-blocking_plan = record {
-  kind = tt;
-  rate = refl;
-  some_channels = omega arith;
-  channels = omega arith;
-  some_count = omega arith;
-  count = omega arith;
-  fits = record { quadlets = omega arith; some = omega arith; size = omega arith };
-  started = omega (arith, ints);
-  start = omega (arith, ints);
-  some_lead = omega arith;
-  lead = omega arith;
-  restart = tt;
-  crf = six_points_fit 8;
-}
-
-pub blocking_fits : (input : List ℕ) → length input ≤ most_input → HasDefaultClock blocking six_points input
-blocking_fits input limit = record { talked = blocking_plan; id = omega arith; limit = limit; stamps = refl; steady = refl; crf_is = refl; lead = refl }
 
 pub video_fits : (input : List ℕ) (last_stamp : Bool) → length input ≤ most_input → IsDefaultVideo (thirty last_stamp) input
 video_fits input last_stamp limit = record {

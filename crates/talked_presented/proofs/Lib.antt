@@ -17,8 +17,5 @@ pub mod Counts
 pub mod VideoHeard
 pub mod Merged
 pub mod Caught
-pub mod Covered
-pub mod Clocked
-pub mod ClockedCapture
 pub mod UnitsAnywhere
 pub mod Files

@@ -1,4 +1,3 @@
 pub mod Whole
 pub mod Anywhere
 pub mod Examples
-pub mod Clocked

@@ -10,7 +10,6 @@ ghost use Rattle.listener.specs.declared.plan.ListenPlan.{ListenPlan};
 ghost use Rattle.listener.specs.Heard.{counts_of, shown_of};
 ghost use Rattle.listener.specs.Items.{MadeItem};
 ghost use Rattle.listener.specs.Laws.{HearsTalker, IsFurther, IsWelcome, by_clock};
-ghost use Rattle.talk_plan.specs.declared.plan.CrfPlan.{CrfPlan};
 ghost use Rattle.talk_plan.specs.declared.plan.TalkPlan.{TalkPlan};
 ghost use Rattle.talk_plan.specs.Plan.{most_input};
 ghost use Rattle.talker.specs.Examples.{six_blocks};
@@ -18,8 +17,7 @@ ghost use Rattle.talker.specs.Frames.{capture};
 ghost use Rattle.talker.specs.Journal.{journal};
 ghost use Rattle.talked_headline.specs.Premises.{HasRoomForUnit, ListensToVideo, captured, part_sent};
 ghost use Rattle.talked_presented.specs.Anywhere.{ComesInTime, MustBePresented, UnitMustBePresented};
-ghost use Rattle.talked_presented.specs.Clocked.{ArePresentedFrom, HasDefaultClock, HearsClock, clocked_listener, first_covered};
-ghost use Rattle.talked_presented.specs.Examples.{blocking, one_unit, plain, silence, six_points, thirty, with_clock};
+ghost use Rattle.talked_presented.specs.Examples.{one_unit, plain, silence, thirty};
 ghost use Rattle.talked_presented.specs.Whole.{ArePresented, HasDefaultLead, HearsAll, HearsUnits, IsDefaultVideo, default_listener, unit_ends};
 
 use listener_laws::laws::{
@@ -31,12 +29,9 @@ use talker::laws::{capture_delivers, capture_reads_back, journal_conforms, losse
 
 /// Files that `talk` makes with its default lead meet the whole premise of the headline, for listeners with the default
 /// options of `listen`. Files of audio without a media clock meet the premise if each packet has a timestamp or is
-/// counted from the timestamp of another packet. Files of audio with a clock meet the premise if three conditions hold:
-/// each packet stamps its first sample, there are no restarts, and the listener has that clock. Files of H.264 always
-/// meet the premise of the headline.
+/// counted from the timestamp of another packet. Files of H.264 always meet the premise of the headline.
 pub fn files_are_heard()
     ensures audio { (plan : TalkPlan) (input : List ℕ) → HasDefaultLead plan input → HearsTalker (pos 0) (journal plan input) (default_listener plan.id) (records_in (capture plan input)) }
-    ensures clocked { (plan : TalkPlan) (crf : CrfPlan) (input : List ℕ) → HasDefaultClock plan crf input → HearsTalker (pos 0) (journal plan input) (clocked_listener plan.id crf.id) (records_in (capture plan input)) }
     ensures h264 { (plan : TalkPlan) (input : List ℕ) → IsDefaultVideo plan input → HearsTalker (pos 0) (journal plan input) (default_listener plan.id) (records_in (capture plan input)) }
 {
     whole_capture_is_heard();
@@ -69,32 +64,6 @@ pub fn defaults_present_all()
         → ArePresented false (journal plan input) (range_with_len 0 (journal plan input).times.packets) (shown_of (default_listener plan.id) (whole_records (capture plan input))) }
 {
     whole_capture_is_presented();
-}
-
-/// Assume that each packet of an audio plan with a clock stamps its first sample. Assume that there are no restarts,
-/// and that the lead is at least 3 ns. Assume that the listener has the talker's clock, no look-ahead, and room for
-/// what is sent during the lead. Then, from the second timestamp of the clock on, each packet of a whole capture is
-/// presented, once and in order. Any other shown item flags a packet with the reason `noclock`. That packet is before
-/// the clock's second timestamp.
-pub fn clocked_capture_is_presented()
-    ensures { (plan : TalkPlan) (crf : CrfPlan) (input : List ℕ) (listen : ListenPlan) → HearsClock plan crf input listen
-        → ArePresentedFrom (journal plan input) (first_covered crf plan) (shown_of listen (whole_records (capture plan input))) }
-{
-    whole_capture_is_heard();
-    capture_reads_back();
-    carried_packet_is_delivered();
-    carried_clock_packet_is_delivered();
-}
-
-/// Take a plan that meets the assumptions of `clocked_capture_is_presented` and has the default lead of `talk`. Suppose
-/// that a listener has the plan's clock, and otherwise the default options of `listen`. Then the listener presents the
-/// plan's packets from the second timestamp of the clock on.
-pub fn defaults_present_by_clock()
-    ensures hears { (plan : TalkPlan) (crf : CrfPlan) (input : List ℕ) → HasDefaultClock plan crf input → HearsClock plan crf input (clocked_listener plan.id crf.id) }
-    ensures presented { (plan : TalkPlan) (crf : CrfPlan) (input : List ℕ) → HasDefaultClock plan crf input
-        → ArePresentedFrom (journal plan input) (first_covered crf plan) (shown_of (clocked_listener plan.id crf.id) (whole_records (capture plan input))) }
-{
-    clocked_capture_is_presented();
 }
 
 /// If the listener has room for the waiting units, it presents each unit of a whole capture of an H.264 plan, once and
@@ -183,7 +152,7 @@ pub fn presented_are_counted()
     ensures flagged { (by : Bool) (p : PacketJournal) (packets : List ℕ) (plan : ListenPlan) (records : List Record) → ArePresented by p packets (shown_of plan records) → (counts_of plan records (shown_of plan records)).flagged ≡ 0 }
 {}
 
-/// Example plans of each kind, with a clock and without, meet the premises of the laws about default options, for any
+/// Example plans of each kind, without a clock, meet the premises of the laws about default options, for any
 /// input. If packets 0, 2, 1 and 1 of a plan are captured, in this order, the first copy of packet 1 must be presented.
 /// If a unit that consists of one packet is captured twice, its first copy must be presented, too.
 pub fn examples_are_so()
@@ -191,8 +160,6 @@ pub fn examples_are_so()
     ensures sparse { (input : List ℕ) → length input ≤ most_input → HasDefaultLead (plain true) input }
     ensures am824 { (input : List ℕ) → length input ≤ most_input → HasDefaultLead (six_blocks 48000) input }
     ensures h264 { (input : List ℕ) (last_stamp : Bool) → length input ≤ most_input → IsDefaultVideo (thirty last_stamp) input }
-    ensures clocked { (input : List ℕ) → length input ≤ most_input → HasDefaultClock with_clock six_points input }
-    ensures clocked_am824 { (input : List ℕ) → length input ≤ most_input → HasDefaultClock blocking six_points input }
     ensures repeated { MustBePresented (plain false) silence (default_listener 0x0200000000010001) (0 ∷ 2 ∷ []) 1 (1 ∷ []) }
     ensures unit { UnitMustBePresented (thirty false) one_unit (default_listener 0x0200000000010001) [] 0 0 (0 ∷ []) }
 {}

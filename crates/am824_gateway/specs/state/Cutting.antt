@@ -9,6 +9,7 @@ use Rattle.am824_gateway.specs.declared.piece.Piece.{Piece}
 use Rattle.am824_gateway.specs.declared.scan.Shape.{Shape}
 use Rattle.am824_gateway.specs.declared.scan.To.{To}
 use Rattle.am824_gateway.specs.Pieces.{block_after, going_on, is_late, is_nominal, most_frames, pieces_of}
+use Rattle.am824_gateway.specs.Scan.{IsShape}
 
 -- A piece begins at the instant `i` of a sample of the batch. The nominal rate is `rate`, and a packet has at most
 -- `most` sample frames.
@@ -36,8 +37,10 @@ pub record CutsBatch (to : To) (shape : Shape) (batch : Presented) (block : ℕ)
   pub in_time : late ≡ list_any (is_late batch) (pieces_of to shape batch block)
   pub few : length pieces ≤ batch.count
 
--- The batch's line has the nominal rate and begins at the first sample, and one packet can carry all samples.
+-- The shape can be converted. The batch's line has the nominal rate and begins at the first sample, and one packet can
+-- carry all samples.
 pub record IsOnePiece (to : To) (shape : Shape) (batch : Presented) : Type 0 where
+  pub known : IsShape shape
   pub begun : batch.from ≡ pos 0
   pub num : batch.line.num ≡ 1000000000
   pub den : batch.line.den ≡ shape.rate

@@ -1,5 +1,5 @@
 -- Only private functions and proofs use these definitions. The invariant of a gateway.
-use Rattle.std.specs.Prelude.{◌≡◌, ℕ, ◌+◌, ◌*◌, ◌^◌, ◌≤◌, false, List, [], length, Option, Some, None, IfSome, vec_capacity}
+use Rattle.std.specs.Prelude.{◌≡◌, ℕ, ◌+◌, ◌*◌, ◌^◌, ◌≤◌, false, List, [], length, Option, Some, None, IfSome}
 use Rattle.std.specs.List.{AllByRecursion}
 use Rattle.sample_schedule.specs.Batches.{IsPresentable, Presented}
 use Rattle.talker.specs.Frames.{SentFrame}
@@ -46,15 +46,12 @@ first_in None = 0
 first_in (Some c) = c.first
 
 -- The invariant of every gateway `g`. `g.pieces` are the pieces of the last batch that was not skipped. The counters
--- are within bounds. Both lists of pieces have room for the pieces of any batch, and the buffer is as long as the
--- longest frame.
+-- are within bounds. The buffer is as long as the longest frame.
 pub record IsGateway (g : Inside) : Type 0 where
   pub shape : IfSome g.shape IsShape
   pub headers : IfSome g.shape (λ shape. HasHeaders g.to shape g.id g.headers)
-  pub cut : IsCutFrom g.current g.pieces.items
-  pub packets : first_in g.current + length g.pieces.items ≤ g.packets
+  pub cut : IsCutFrom g.current g.pieces.list.items
+  pub packets : first_in g.current + length g.pieces.list.items ≤ g.packets
   pub few : g.packets ≤ 65535 * g.batches
   pub batches : g.batches ≤ 2 ^ 44
-  pub room : 65535 ≤ vec_capacity g.pieces
-  pub spare : 65535 ≤ vec_capacity g.spare
   pub frame : length g.frame.items ≡ 1518

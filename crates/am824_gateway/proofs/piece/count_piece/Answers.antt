@@ -21,8 +21,8 @@ loop-count-preserved c =
     let begun = in_range batch c.args.instant.now presentable c.requires.is (omega arith) in
     let now_same : to_z w64 (of_z w64 c.loop-count.instant.nanoseconds) ≡ c.loop-count.instant.nanoseconds = omega (arith, ints, now.from, now.to) in
     let begun_same : to_z w64 (of_z w64 c.args.instant.now.nanoseconds) ≡ c.args.instant.now.nanoseconds = omega (arith, ints, begun.from, begun.to) in
-    let test = test_is rate first k c.loop-count.instant.j c.nominal_offset.result batch c.loop-count.instant.nanoseconds c.args.instant.now.nanoseconds c.is_on_line.result
-    (rw (now_same, begun_same) at c.is_on_line.ensures) i.is.at i.after c.requires.is.at c.nominal_offset.ensures.value in
+    let test = test_is rate first k c.loop-count.instant.j batch c.loop-count.instant.nanoseconds c.args.instant.now.nanoseconds c.is_on_line.result
+    (rw (now_same, begun_same) at c.is_on_line.ensures) i.is.at i.after c.requires.is.at in
     let on : is_nominal rate batch first k ≡ true = test ∙ c.if-is_on_line.true in
     let next = goes_on (is_nominal rate batch first) k (limit - k) (omega arith) on in
     let less : limit - k - 1 ≡ limit - (k + 1) = omega arith in
@@ -48,8 +48,8 @@ returns-else-is_on_line c =
     let begun = in_range batch c.args.instant.now presentable c.requires.is (omega arith) in
     let now_same : to_z w64 (of_z w64 c.loop-count.instant.nanoseconds) ≡ c.loop-count.instant.nanoseconds = omega (arith, ints, now.from, now.to) in
     let begun_same : to_z w64 (of_z w64 c.args.instant.now.nanoseconds) ≡ c.args.instant.now.nanoseconds = omega (arith, ints, begun.from, begun.to) in
-    let test = test_is rate first k c.loop-count.instant.j c.nominal_offset.result batch c.loop-count.instant.nanoseconds c.args.instant.now.nanoseconds c.is_on_line.result
-    (rw (now_same, begun_same) at c.is_on_line.ensures) i.is.at i.after c.requires.is.at c.nominal_offset.ensures.value in
+    let test = test_is rate first k c.loop-count.instant.j batch c.loop-count.instant.nanoseconds c.args.instant.now.nanoseconds c.is_on_line.result
+    (rw (now_same, begun_same) at c.is_on_line.ensures) i.is.at i.after c.requires.is.at in
     let off : is_nominal rate batch first k ≡ false = test ∙ c.if-is_on_line.false in
     record {
       value = sym (stops (is_nominal rate batch first) k (limit - k) off) ∙ (i.value ∙ ap (λ (n : ℕ). going_on (is_nominal rate batch first) 1 (n - 1)) (rw count at c.min-limit.ensures));

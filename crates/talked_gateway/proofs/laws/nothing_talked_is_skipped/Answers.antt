@@ -5,7 +5,7 @@ use Rattle.listener.specs.Laws.{presented_of}
 use Rattle.listener.proofs.Due.{due_first}
 use Rattle.talker.proofs.TalkLemmas.{audio_plan}
 use Rattle.talked_headline.specs.Premises.{captured}
-use Rattle.am824_gateway.proofs.Shaped.{due_shaped, shown_shaped}
+use Rattle.gateway_laws.proofs.Shaped.{due_shaped, shown_shaped}
 use Rattle.am824_gateway.specs.Scan.{shape_in}
 use Rattle.talked_gateway.proofs.Skipped.{AreApart, front_apart, shown_apart, skips_none}
 use Rattle.talked_gateway.proofs.laws.nothing_talked_is_skipped.Goals as goal

@@ -1,4 +1,4 @@
-use Rattle.talked_presented.proofs.Examples.{blocking_fits, blocks_fit, clock_fits, dense_fits, repeated_fits, sparse_fits, unit_fits, video_fits}
+use Rattle.talked_presented.proofs.Examples.{blocks_fit, dense_fits, repeated_fits, sparse_fits, unit_fits, video_fits}
 use Rattle.talked_presented.proofs.laws.examples_are_so.Goals as goal
 
 pub returns-clause-dense : goal.returns-clause-dense
@@ -12,12 +12,6 @@ returns-clause-am824 c = blocks_fit
 
 pub returns-clause-h264 : goal.returns-clause-h264
 returns-clause-h264 c = video_fits
-
-pub returns-clause-clocked : goal.returns-clause-clocked
-returns-clause-clocked c = clock_fits
-
-pub returns-clause-clocked_am824 : goal.returns-clause-clocked_am824
-returns-clause-clocked_am824 c = blocking_fits
 
 pub returns-clause-repeated : goal.returns-clause-repeated
 returns-clause-repeated c = repeated_fits

@@ -5,9 +5,7 @@ use Rattle.talker.specs.Frames.{capture}
 use Rattle.talker.specs.Journal.{journal}
 use Rattle.talker.proofs.TalkLemmas.{audio_plan}
 use Rattle.talked_headline.proofs.Talked.{stream_is, video_expects, video_plan}
-use Rattle.talked_presented.specs.Clocked.{clocked_listener}
 use Rattle.talked_presented.specs.Whole.{default_listener}
-use Rattle.talked_presented.proofs.ClockedCapture.{default_hears}
 use Rattle.talked_presented.proofs.Defaults.{defaults_hear}
 use Rattle.talked_presented.proofs.Files.{file_heard}
 use Rattle.talked_presented.proofs.laws.files_are_heard.Goals as goal
@@ -16,11 +14,6 @@ pub returns-clause-audio : goal.returns-clause-audio
 returns-clause-audio c = λ plan input h.
     file_heard (journal plan input) (default_listener plan.id) (capture plan input) (c.capture_reads_back.ensures.refusal plan input (audio_plan plan h.talked) h.limit)
     (c.whole_capture_is_heard.ensures plan input (default_listener plan.id) (defaults_hear plan input h).talk)
-
-pub returns-clause-clocked : goal.returns-clause-clocked
-returns-clause-clocked c = λ plan crf input h.
-    file_heard (journal plan input) (clocked_listener plan.id crf.id) (capture plan input) (c.capture_reads_back.ensures.refusal plan input (audio_plan plan h.talked) h.limit)
-    (c.whole_capture_is_heard.ensures plan input (clocked_listener plan.id crf.id) (default_hears plan crf input h).talk)
 
 pub returns-clause-h264 : goal.returns-clause-h264
 returns-clause-h264 c = λ plan input h.

@@ -12,22 +12,22 @@ pub index-piece-requires : goal.index-piece-requires
 index-piece-requires c =
     let inside = c.self.inside in
     let asked = rw (← c.self.view_is) at c.requires in
-    let here : c.args.i < length inside.pieces.items = known inside.current inside.pieces.items c.in-Some.current c.args.i c.in-Some.is asked in
+    let here : c.args.i < length inside.pieces.list.items = known inside.current inside.pieces.list.items c.in-Some.current c.args.i c.in-Some.is asked in
     search rules
 
 pub write_front-requires-clause-cut : goal.write_front-requires-clause-cut
 write_front-requires-clause-cut c =
     let inside = c.self.inside in
     let asked = rw (← c.self.view_is) at c.requires in
-    let here = known inside.current inside.pieces.items c.in-Some.current c.args.i c.in-Some.is asked in
-    cut_one inside.current inside.pieces.items c.in-Some.current c.args.i c.index-piece.result.now c.in-Some.is c.self.invariant.cut here c.index-piece.ensures
+    let here = known inside.current inside.pieces.list.items c.in-Some.current c.args.i c.in-Some.is asked in
+    cut_one inside.current inside.pieces.list.items c.in-Some.current c.args.i c.index-piece.result.now c.in-Some.is c.self.invariant.cut here c.index-piece.ensures
 
 pub write_front-requires-clause-size : goal.write_front-requires-clause-size
 write_front-requires-clause-size c =
     let inside = c.self.inside in
     let is : IsPieceTurn c.args.self.now c.args.i c.turn-turn.result = rw c.self.view_is at c.turn-turn.ensures in
     let cur = c.in-Some.current in
-    let items = inside.pieces.items in
+    let items = inside.pieces.list.items in
     let asked = rw (← c.self.view_is) at c.requires in
     let here = known inside.current items cur c.args.i c.in-Some.is asked in
     let p = c.index-piece.result.now in
@@ -42,7 +42,7 @@ pub returns : goal.returns
 returns c =
     let inside = c.self.inside in
     let cur = c.in-Some.current in
-    let items = inside.pieces.items in
+    let items = inside.pieces.list.items in
     let turn = c.turn-turn.result in
     let is : IsPieceTurn c.args.self.now c.args.i turn = rw c.self.view_is at c.turn-turn.ensures in
     let asked = rw (← c.self.view_is) at c.requires in
@@ -66,8 +66,7 @@ returns c =
     let most : length (take turn.size c.as_slice.result.now) ≤ 1518 = (let e = ap (λ (xs : List ℕ). length xs) made in omega (arith, e, long, size, most)) in (
       (refl, (λ _. tt), c.self.view_is),
       record {
-        frame = rw at whole;
-        size = most;
+        lent = record { is = rw at whole; most = most };
         after = tt;
       },
     )

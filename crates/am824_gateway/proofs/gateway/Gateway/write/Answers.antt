@@ -10,21 +10,21 @@ pub index-piece-requires : goal.index-piece-requires
 index-piece-requires c =
     let inside = c.self.inside in
     let asked = rw (← c.self.view_is) at c.requires.turn.is in
-    let here : c.args.i < length inside.pieces.items = known_by inside.current inside.pieces.items c.in-Some.current c.args.i c.args.turn c.in-Some.is asked in
+    let here : c.args.i < length inside.pieces.list.items = known_by inside.current inside.pieces.list.items c.in-Some.current c.args.i c.args.turn c.in-Some.is asked in
     search rules
 
 pub write-requires-clause-cut : goal.write-requires-clause-cut
 write-requires-clause-cut c =
     let inside = c.self.inside in
     let asked = rw (← c.self.view_is) at c.requires.turn.is in
-    let here = known_by inside.current inside.pieces.items c.in-Some.current c.args.i c.args.turn c.in-Some.is asked in
-    cut_one inside.current inside.pieces.items c.in-Some.current c.args.i c.index-piece.result.now c.in-Some.is c.self.invariant.cut here c.index-piece.ensures
+    let here = known_by inside.current inside.pieces.list.items c.in-Some.current c.args.i c.args.turn c.in-Some.is asked in
+    cut_one inside.current inside.pieces.list.items c.in-Some.current c.args.i c.index-piece.result.now c.in-Some.is c.self.invariant.cut here c.index-piece.ensures
 
 pub write-requires-clause-room : goal.write-requires-clause-room
 write-requires-clause-room c =
     let inside = c.self.inside in
     let cur = c.in-Some.current in
-    let items = inside.pieces.items in
+    let items = inside.pieces.list.items in
     let asked = rw (← c.self.view_is) at c.requires.turn.is in
     let here = known_by inside.current items cur c.args.i c.args.turn c.in-Some.is asked in
     let p = c.index-piece.result.now in
@@ -39,7 +39,7 @@ pub returns : goal.returns
 returns c =
     let inside = c.self.inside in
     let cur = c.in-Some.current in
-    let items = inside.pieces.items in
+    let items = inside.pieces.list.items in
     let asked = rw (← c.self.view_is) at c.requires.turn.is in
     let here = known_by inside.current items cur c.args.i c.args.turn c.in-Some.is asked in
     let p = c.index-piece.result.now in

@@ -17,13 +17,13 @@ use Rattle.am824_gateway.specs.Labels.{unlabelled, value_in, value_out}
 use Rattle.am824_gateway.specs.Laws.{cuts_after, cuts_from, given_batches}
 use Rattle.am824_gateway.specs.Packets.{samples_of, values_of}
 use Rattle.am824_gateway.specs.Pieces.{Given, given_with, going_on, is_nominal, most_frames, next_block, piece_count, pieces_from, pieces_of, skip_by, unless}
-use Rattle.am824_gateway.specs.Samples.{Sample, batch_samples, packet_samples, part, samples_presented, samples_sent, values_in, values_out}
+use Rattle.gateway_laws.specs.Samples.{Sample, batch_samples, packet_samples, part, samples_presented, samples_sent, values_in, values_out}
 use Rattle.am824_gateway.specs.Scan.{IsShape}
 use Rattle.am824_gateway.proofs.CutLemmas.{given_is}
 use Rattle.am824_gateway.proofs.GatewayLemmas.{shaped, some_frames}
 use Rattle.am824_gateway.proofs.ListLemmas.{length-part}
 use Rattle.am824_gateway.proofs.PieceLemmas.{counted}
-use Rattle.am824_gateway.proofs.ValueLemmas.{labels_part, values_part}
+use Rattle.gateway_laws.proofs.ValueLemmas.{labels_part, values_part}
 
 -- ---- instants
 

@@ -29,11 +29,11 @@ use Rattle.talker.specs.state.Frames.{left_of}
 use Rattle.talker.proofs.AudioLemmas.{timely}
 use Rattle.talker.proofs.StreamLemmas.{clocks_in, frames_of, packets_in}
 use Rattle.talker.proofs.TalkLemmas.{audio_plan, is_of, plan_keeps, stream_is}
-use Rattle.talked_presented.specs.Clocked.{HasDefaultClock, HearsClock, StampsFirst, clocked_listener}
+use Rattle.talked_clocked.specs.Clocked.{HasDefaultClock, HearsClock, StampsFirst, clocked_listener}
 use Rattle.talked_headline.proofs.Talked.{kind_heard}
 use Rattle.talked_presented.proofs.Caught.{is_caught}
-use Rattle.talked_presented.proofs.Clocked.{HasWhole}
-use Rattle.talked_presented.proofs.Covered.{IsClocked, stamp_at}
+use Rattle.talked_clocked.proofs.Clocked.{HasWhole}
+use Rattle.talked_clocked.proofs.Covered.{IsClocked, stamp_at}
 use Rattle.talked_presented.proofs.Defaults.{expects_by, holds}
 use Rattle.talked_presented.proofs.Known.{IsInterval, interval_is}
 use Rattle.talked_presented.proofs.Merged.{all_merged, frame_by}

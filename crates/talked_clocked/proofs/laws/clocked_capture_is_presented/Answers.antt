@@ -5,10 +5,10 @@ use Rattle.listener.specs.Laws.{HearsTalker}
 use Rattle.talker.specs.Frames.{records}
 use Rattle.talker.specs.Journal.{journal}
 use Rattle.talker.proofs.TalkLemmas.{audio_plan}
-use Rattle.talked_presented.specs.Clocked.{ArePresentedFrom, first_covered}
-use Rattle.talked_presented.proofs.Clocked.{all_presented}
-use Rattle.talked_presented.proofs.ClockedCapture.{whole_heard}
-use Rattle.talked_presented.proofs.laws.clocked_capture_is_presented.Goals as goal
+use Rattle.talked_clocked.specs.Clocked.{ArePresentedFrom, first_covered}
+use Rattle.talked_clocked.proofs.Clocked.{all_presented}
+use Rattle.talked_clocked.proofs.ClockedCapture.{whole_heard}
+use Rattle.talked_clocked.proofs.laws.clocked_capture_is_presented.Goals as goal
 
 pub returns : goal.returns
 returns c plan crf input listen h =

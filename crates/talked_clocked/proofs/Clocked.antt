@@ -74,10 +74,10 @@ use Rattle.talk_clock.specs.Clock.{clock_arrival, first_point}
 use Rattle.talk_clock.proofs.ClockPoints.{steady_points}
 use Rattle.talker.specs.Journal.{journal, stream_of}
 use Rattle.talker.proofs.StreamLemmas.{clocks_in}
-use Rattle.talked_presented.specs.Clocked.{ArePresentedFrom, IsFrom, first_covered}
+use Rattle.talked_clocked.specs.Clocked.{ArePresentedFrom, IsFrom, first_covered}
 use Rattle.talked_presented.specs.Whole.{HoldsLead}
 use Rattle.talked_presented.proofs.Caught.{IsCaught, came_by, not_before}
-use Rattle.talked_presented.proofs.Covered.{IsClocked, IsOverStamp, at_stamp, at_start, covered_here, first_head, head_is, not_over, over_stamp, stamp_at}
+use Rattle.talked_clocked.proofs.Covered.{IsClocked, IsOverStamp, at_stamp, at_start, covered_here, first_head, head_is, not_over, over_stamp, stamp_at}
 use Rattle.talked_presented.proofs.Merged.{AreMerged, IsPlaced, has_place, placed}
 use Rattle.talked_presented.proofs.Sent.{few_wait, has_times, packet_size}
 

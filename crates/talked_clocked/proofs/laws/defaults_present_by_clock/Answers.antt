@@ -1,6 +1,6 @@
-use Rattle.talked_presented.specs.Clocked.{clocked_listener}
-use Rattle.talked_presented.proofs.ClockedCapture.{default_hears}
-use Rattle.talked_presented.proofs.laws.defaults_present_by_clock.Goals as goal
+use Rattle.talked_clocked.specs.Clocked.{clocked_listener}
+use Rattle.talked_clocked.proofs.ClockedCapture.{default_hears}
+use Rattle.talked_clocked.proofs.laws.defaults_present_by_clock.Goals as goal
 
 pub returns-clause-hears : goal.returns-clause-hears
 returns-clause-hears c = default_hears

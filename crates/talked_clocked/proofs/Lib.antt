@@ -1,0 +1,4 @@
+pub mod Covered
+pub mod Clocked
+pub mod ClockedCapture
+pub mod Examples
