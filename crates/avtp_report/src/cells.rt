@@ -3,7 +3,8 @@
 use crate::named::{InWords, class_name, kind_of};
 use crate::units::{Address, Micros, Thousandths};
 use std::alloc::{AllocError, Global};
-use stream_report::{Spread, Stream, Tally, class_of, drift_of};
+use stream_report::{Stream, Tally, class_of, drift_of};
+use value_spread::Spread;
 
 /// A column: its name, and what it holds.
 #[derive(Clone, Copy)]

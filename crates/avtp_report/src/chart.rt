@@ -3,7 +3,8 @@
 
 use crate::units::Signed;
 use std::io::{self, Write};
-use stream_report::{Column, Range, Spread, Stream, Trace};
+use stream_report::{Column, Range, Stream, Trace};
+use value_spread::Spread;
 
 /// The width and height of a picture, in its own units.
 const WIDTH: u64 = 10_000;

@@ -2,7 +2,7 @@
 
 ghost use Rattle.std.specs.Prelude.{◌≡◌, IfOk, IfSome, IsSome};
 ghost use Rattle.avtp_words.specs.Grammar.{IsCommandLine, listen as listen_request, listening_of, named_file, named_raw, Request};
-ghost use Rattle.avtp_words.specs.Word.{texts};
+ghost use Rattle.option_words.specs.Word.{texts};
 ghost use Rattle.avtp_system.specs.Program.{AreAsked, HasEnded, WritesRaw, WritesUnits};
 
 use crate::system::System;

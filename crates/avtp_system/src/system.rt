@@ -1,7 +1,7 @@
 //! The system that a program runs on.
 
 ghost use Rattle.std.specs.Prelude.{◌≡◌, IfErr, IfOk, IfSome, IsSome};
-ghost use Rattle.avtp_words.specs.Word.{texts};
+ghost use Rattle.option_words.specs.Word.{texts};
 
 use avtp_base::NoMemory;
 use avtp_tool::Status;

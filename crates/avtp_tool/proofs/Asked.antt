@@ -15,10 +15,10 @@ use Rattle.avtp_words.specs.declared.talk.Kind.TheVariants as words
 use Rattle.avtp_words.specs.Grammar.{FitsClock, FitsKind, FitsOptions, HasWholeRuns as KeepsWholeRuns, IsCommandLine, KeepsRules, Request, SaysClock, SaysTalk, SaysListener, show, check, gateway, listen, soak, talk, agree, Talking}
 use Rattle.avtp_words.specs.declared.listener.ListenerOptions.{ListenerOptions}
 use Rattle.avtp_words.specs.Limits.{default_rate}
-use Rattle.avtp_words.specs.Number.{IsNumber, IsSigned}
-use Rattle.avtp_words.specs.Word.{IsId}
+use Rattle.option_words.specs.Number.{IsNumber, IsSigned}
+use Rattle.option_words.specs.Word.{IsId}
 use Rattle.avtp_words.proofs.Lacking.{video_clock, video_restart}
-use Rattle.avtp_words.specs.Options.{Setting, value_in}
+use Rattle.option_words.specs.Options.{Setting, value_in}
 use Rattle.sample_schedule.specs.Limits.{IsPlan as IsSchedulePlan}
 use Rattle.listener.specs.Heard.{schedule_plan}
 use Rattle.avtp_tool.specs.Listen.{plan_of}

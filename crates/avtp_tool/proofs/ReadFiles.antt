@@ -11,7 +11,7 @@ use Rattle.avtp_base.specs.Files.{Files, IsMissing, KeepsFiles}
 use Rattle.avtp_base.specs.States.{ShelfState, SinkState, WasAsked}
 use Rattle.sample_schedule.specs.declared.shown.Shown.{Shown}
 use Rattle.avtp_text.specs.Written.{written}
-use Rattle.avtp_words.specs.Word.{texts}
+use Rattle.option_words.specs.Word.{texts}
 use Rattle.capture_io.specs.Reads.{OnlyReads}
 use Rattle.capture_io.proofs.Leaving.{only_reads_nothing, only_reads_then}
 use Rattle.avtp_tool.specs.declared.status.Status.{Status}

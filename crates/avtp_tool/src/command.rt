@@ -3,7 +3,7 @@
 ghost use Rattle.std.specs.Prelude.{◌≡◌, ℕ, Ok, true, false, nat_lt};
 ghost use Rattle.avtp_text.specs.Notices.{read_fault_line, words_line};
 ghost use Rattle.avtp_words.specs.Grammar.{IsCommandLine, IsOffence, Request};
-ghost use Rattle.avtp_words.specs.Word.{texts};
+ghost use Rattle.option_words.specs.Word.{texts};
 ghost use Rattle.avtp_tool.specs.HasRun.{HasRun, RefusesWords};
 ghost use Rattle.avtp_tool.specs.state.Outcome.{EndsUnopened, EndsWith, Finishes, KeepsSink};
 ghost use Rattle.avtp_tool.specs.Run.{is_listening};

@@ -2,7 +2,7 @@
 
 ghost use Rattle.std.specs.Prelude.{◌≡◌, slice_get, IfSome};
 ghost use Rattle.avtp_words.specs.Grammar.{IsCommandLine, listen as listen_request, Listening, listening_of};
-ghost use Rattle.avtp_words.specs.Word.{texts};
+ghost use Rattle.option_words.specs.Word.{texts};
 ghost use Rattle.avtp_tool.specs.DeviceWords.{devices_of, silence_as};
 
 use avtp_words::{Command, Listen, parse};

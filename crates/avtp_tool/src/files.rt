@@ -3,7 +3,7 @@
 ghost use Rattle.std.specs.Prelude.{◌≡◌, false, nat_lt};
 ghost use Rattle.avtp_tool.specs.Yield.{HandsOn};
 ghost use Rattle.avtp_words.specs.Grammar.{listen as listen_request, listening_of};
-ghost use Rattle.avtp_words.specs.Word.{texts};
+ghost use Rattle.option_words.specs.Word.{texts};
 ghost use Rattle.avtp_tool.specs.state.Files.{is_hearing, IsReading, limit_for, plan_for, report_for};
 ghost use Rattle.avtp_text.specs.Notices.{device_fault_line};
 ghost use Rattle.avtp_tool.specs.state.Outcome.{EndsWith};

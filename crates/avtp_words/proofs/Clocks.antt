@@ -4,7 +4,7 @@ use Rattle.avtp_words.specs.declared.crf.Crf.{Crf}
 use Rattle.avtp_words.specs.Grammar.{SaysClock, SaysCrf}
 use Rattle.avtp_words.specs.Limits as limits
 use Rattle.avtp_words.specs.Limits.{with_default}
-use Rattle.avtp_words.specs.Options.{Setting}
+use Rattle.option_words.specs.Options.{Setting}
 use Rattle.avtp_words.specs.state.Reading.{ClockIsWithin}
 use Rattle.avtp_words.proofs.CommandLines.{same_id_given_if, same_number, within}
 

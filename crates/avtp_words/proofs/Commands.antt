@@ -1,5 +1,6 @@
 -- The command lines of each command, and their offences.
 use Rattle.std.proofs.Common.{Contains, ◌↔◌, ◌-◌, ◌*◌, ◌≤◌, IsTrue, Bool, ◌≡◌, ◌≢◌, ℕ, zero, suc, ◌+◌, ◌<◌, ◌^◌, ◌⊎◌, inl, inr, true, false, List, [], ◌∷◌, ◌++◌, flat_map, length, take, drop, Option, Some, None, slice_get, get_or, IfSome, arith, sym, subst, ap, ◌∙◌, refl, append_assoc, length-append, codes, string_bytes, String, pos}
+use Rattle.option_words.specs.Operands.{most_packets, AreOperands}
 use Rattle.std.specs.Prelude.{Result, Ok, Err, IfOk, IfErr, IsOkAnd, IsErrAnd, MatchOption}
 use Rattle.std.specs.Str.{bytes_eq}
 use Rattle.std.specs.declared.alloc.Global.{Global}
@@ -8,8 +9,8 @@ use Rattle.std.proofs.lemmas.List.{append-nil}
 use Rattle.std.proofs.Math.Seq.{drop-append-add}
 use Rattle.std.proofs.lemmas.List.Elements.{All-nil}
 use Rattle.aaf_format.specs.declared.aaf.AafFormat.TheVariants.{Int16}
-use Rattle.avtp_words.specs.declared.option.Takes.{Takes}
-use Rattle.avtp_words.specs.declared.option.Takes.TheVariants as takes
+use Rattle.option_words.specs.declared.option.Takes.{Takes}
+use Rattle.option_words.specs.declared.option.Takes.TheVariants as takes
 use Rattle.avtp_words.specs.declared.command.Command.{Command}
 use Rattle.avtp_words.specs.declared.talk.Kind.{Kind}
 use Rattle.avtp_words.specs.declared.talk.Kind.TheVariants.{Aaf, Am824, H264}
@@ -20,23 +21,27 @@ use Rattle.avtp_words.specs.declared.crf.Crf.{Crf}
 use Rattle.avtp_words.specs.declared.device.Silence.{Silence}
 use Rattle.avtp_words.specs.declared.device.Silence.TheVariants.{Zero, Am824 as Blocks}
 use Rattle.avtp_words.specs.Given.{IsGiven, IsGivenId, IsGivenIdIf, IsGivenIf, IsGivenSilence}
-use Rattle.avtp_words.specs.Number.{IsNumber}
-use Rattle.avtp_words.specs.Operands.{AreOperands}
+use Rattle.option_words.specs.Number.{IsNumber}
 use Rattle.avtp_words.specs.declared.listener.ListenerOptions.{ListenerOptions}
+use Rattle.avtp_words.specs.state.Answers.{Asks, Reads}
 use Rattle.avtp_words.specs.state.Operands.{NameStreamAndTwo}
-use Rattle.avtp_words.specs.state.Reading.{IsReadListener, ClockIsWithin, IsRest, IsRestTo, StopsAfter, are_sound, value_after, IsRead, IsReadClock, IsReadId, IsReadIdIf, IsReadIf, IsReadSigned, IsReadFormat, IsReadKind, IsReadFile, IsReadRaw, IsReadSilence, ReadsFile, AreHeard, AreRead}
-use Rattle.avtp_words.specs.Word.{texts, BeginsWithDash, IsId}
+use Rattle.avtp_words.specs.state.Reading.{IsReadListener, ClockIsWithin, StopsAfter, IsReadClock, IsReadKind, IsReadFile, IsReadRaw, IsReadSilence, ReadsFile, AreHeard, AreRead}
+use Rattle.option_words.specs.Lines.{IsRest, IsRestTo, Begins, Stops, StopsAt}
+use Rattle.option_words.specs.Tables.{are_sound}
+use Rattle.option_words.specs.Values.{value_after, IsRead, IsReadId, IsReadIdIf, IsReadIf, IsReadSigned, IsReadFormat}
+use Rattle.option_words.specs.Word.{texts, BeginsWithDash, IsId}
 use Rattle.avtp_words.specs.Limits as limits
 use Rattle.avtp_words.specs.Limits.{NumberOption, default_rate, number, signed, with_default}
-use Rattle.avtp_words.specs.Options.{Row, row_named, Setting, words_of, IsValue, IsSetting, stands_alone, gateway_format_name, value_in}
-use Rattle.avtp_words.specs.Grammar.{request_of, Request, Agreeing, Listening, Talking, Turning, show, check, listen, talk, soak, agree, gateway, Form, form_named, show_form, check_form, listen_form, talk_form, soak_form, agree_form, gateway_form, IsOf, IsShow, IsCheck, IsGivenFile, IsGivenRaw, IsSoak, NamedFile, NamedRaw, NamesFile, SaysAgree, SaysClock, SaysGateway, SaysKind, SaysListen, SaysListener, SaysTalk, KeepsNames, KeepsOutput, KeepsRules, IsCommandLine, IsLine, Begins, Stops, StopsAt, IsOffence, of_a_word, of_a_rule}
-use Rattle.avtp_words.proofs.Settings.{same-true}
-use Rattle.avtp_words.proofs.CommandLines.{same_line, left_is, value_is, value-after, number_given, number_given_if, id_given, id_given_if, signed_given, format_given, within, same_number, same_number_if, same_id, same_id_given, same_id_given_if, same_signed, same_format_given, options_to, words_after, beyond}
+use Rattle.option_words.specs.Options.{Row, row_named, Setting, words_of, IsValue, IsSetting, stands_alone, value_in}
+use Rattle.avtp_words.specs.Grammar.{gateway_format_name, request_of, Request, Agreeing, Listening, Talking, Turning, show, check, listen, talk, soak, agree, gateway, Form, form_named, show_form, check_form, listen_form, talk_form, soak_form, agree_form, gateway_form, IsOf, IsShow, IsCheck, IsGivenFile, IsGivenRaw, IsSoak, NamedFile, NamedRaw, NamesFile, SaysAgree, SaysClock, SaysGateway, SaysKind, SaysListen, SaysListener, SaysTalk, KeepsNames, KeepsOutput, KeepsRules, IsCommandLine, IsLine, IsOffence, of_a_word, of_a_rule}
+use Rattle.option_words.proofs.Settings.{same-true}
+use Rattle.avtp_words.proofs.CommandLines.{same_line, number_given, number_given_if, id_given, id_given_if, signed_given, format_given, within, same_number, same_number_if, same_id, same_id_given, same_id_given_if, same_signed, same_format_given}
+use Rattle.option_words.proofs.Lines.{left_is, value_is, value-after, options_to, words_after, beyond}
 use Rattle.avtp_words.proofs.Clocks.{clock_within, same_clock}
 use Rattle.avtp_words.proofs.Devices.{same_file, same_raw}
-use Rattle.avtp_words.proofs.Numbers.{spells_one}
-use Rattle.avtp_words.proofs.Operands.{names}
-use Rattle.avtp_words.proofs.Steps.{words_before, after_first}
+use Rattle.option_words.proofs.Numbers.{spells_one}
+use Rattle.option_words.proofs.Operands.{names}
+use Rattle.option_words.proofs.Steps.{words_before, after_first}
 
 -- ---- a command's name and more words are a line if and only if these words fit the command's form
 
@@ -106,32 +111,23 @@ offence_of_command words other = of_a_word 0 refl (record {
   go [] none = λ line. nothing_asked line
   go (word ∷ rest) none = λ b. first_known word b.more b.whole none
 
-pub words_are : (words rest : List (String Global)) (command : String Global) (name : List ℕ) → words ≡ command ∷ rest → string_bytes command ≡ name → texts words ≡ name ∷ texts rest
+words_are : (words rest : List (String Global)) (command : String Global) (name : List ℕ) → words ≡ command ∷ rest → string_bytes command ≡ name → texts words ≡ name ∷ texts rest
 words_are words rest command name e same = ap texts e ∙ ap (λ (first : List ℕ). first ∷ texts rest) same
 
+differs : (name word : List ℕ) → (word ≡ name → ⊥) → bytes_eq name word ≡ false
+differs name word other = elim (cases_Bool (bytes_eq name word)) [ inl same ↦ absurd (other (sym (same-true name word same))) | inr unlike ↦ unlike ]
+
 no_form : (word : List ℕ) → (word ≡ codes "show" → ⊥) → (word ≡ codes "check" → ⊥) → (word ≡ codes "listen" → ⊥) → (word ≡ codes "talk" → ⊥) → (word ≡ codes "soak" → ⊥) → (word ≡ codes "agree" → ⊥) → (word ≡ codes "gateway" → ⊥) → form_named word ≡ None
-no_form word not_show not_check not_listen not_talk not_soak not_agree not_gateway = elim (cases_Bool (bytes_eq (codes "show") word)) [
-  | inl same ↦ absurd (not_show (sym (same-true (codes "show") word same)))
-  | inr shown ↦ elim (cases_Bool (bytes_eq (codes "check") word)) [
-    | inl same ↦ absurd (not_check (sym (same-true (codes "check") word same)))
-    | inr checked ↦ elim (cases_Bool (bytes_eq (codes "listen") word)) [
-      | inl same ↦ absurd (not_listen (sym (same-true (codes "listen") word same)))
-      | inr heard ↦ elim (cases_Bool (bytes_eq (codes "talk") word)) [
-        | inl same ↦ absurd (not_talk (sym (same-true (codes "talk") word same)))
-        | inr said ↦ elim (cases_Bool (bytes_eq (codes "soak") word)) [
-          | inl same ↦ absurd (not_soak (sym (same-true (codes "soak") word same)))
-          | inr soaked ↦ elim (cases_Bool (bytes_eq (codes "agree") word)) [
-            | inl same ↦ absurd (not_agree (sym (same-true (codes "agree") word same)))
-            | inr agreed ↦ elim (cases_Bool (bytes_eq (codes "gateway") word)) [
-              | inl same ↦ absurd (not_gateway (sym (same-true (codes "gateway") word same)))
-              | inr turned ↦ rw (shown, checked, heard, said, soaked, agreed, turned) refl
-            ]
-          ]
-        ]
-      ]
-    ]
-  ]
-]
+no_form word not_show not_check not_listen not_talk not_soak not_agree not_gateway =
+    rw (
+      differs (codes "show") word not_show,
+      differs (codes "check") word not_check,
+      differs (codes "listen") word not_listen,
+      differs (codes "talk") word not_talk,
+      differs (codes "soak") word not_soak,
+      differs (codes "agree") word not_agree,
+      differs (codes "gateway") word not_gateway,
+    ) refl
 
 pub other_first : (words rest : List (String Global)) (command : String Global) → words ≡ command ∷ rest → (string_bytes command ≡ codes "show" → ⊥) → (string_bytes command ≡ codes "check" → ⊥) → (string_bytes command ≡ codes "listen" → ⊥) → (string_bytes command ≡ codes "talk" → ⊥) → (string_bytes command ≡ codes "soak" → ⊥) → (string_bytes command ≡ codes "agree" → ⊥) → (string_bytes command ≡ codes "gateway" → ⊥) → IsNoCommand (texts words)
 other_first words rest command e not_show not_check not_listen not_talk not_soak not_agree not_gateway = rw e (no_form (string_bytes command) not_show not_check not_listen not_talk not_soak not_agree not_gateway)
@@ -489,15 +485,15 @@ one_number words place r = go r.rest.names r.rest.spelled r.rest.named (first_op
 pub soak_stands : (words : List (List ℕ)) (place : ℕ) → IsRestTo soak_form.rows soak_form.operands words place → slice_get words place ≡ None → ⊥
 soak_stands words place r none = let t = one_number words place r in let both = sym t.at_number ∙ none in cc
 
-pub soak_number : (words : List (List ℕ)) (place : ℕ) (word : List ℕ) → IsRestTo soak_form.rows soak_form.operands words place → slice_get words place ≡ Some word → ((n : ℕ) → IsNumber 0 limits.packets word n → ⊥) → ⊥
+pub soak_number : (words : List (List ℕ)) (place : ℕ) (word : List ℕ) → IsRestTo soak_form.rows soak_form.operands words place → slice_get words place ≡ Some word → ((n : ℕ) → IsNumber 0 most_packets word n → ⊥) → ⊥
 soak_number words place word r here none =
     let t = one_number words place r in
     let both = sym t.at_number ∙ here in
     let same : t.number ≡ word = cc in
     let n = t.line.operands.0 in
-    none n.0 (subst (λ w. IsNumber 0 limits.packets w n.0) same n.1)
+    none n.0 (subst (λ w. IsNumber 0 most_packets w n.0) same n.1)
 
-pub soak_is : (words : List (List ℕ)) (place : ℕ) (word : List ℕ) (packets : ℕ) → IsRestTo soak_form.rows soak_form.operands words place → slice_get words place ≡ Some word → IsNumber 0 limits.packets word packets → IsSoak (codes "soak" ∷ words) packets
+pub soak_is : (words : List (List ℕ)) (place : ℕ) (word : List ℕ) (packets : ℕ) → IsRestTo soak_form.rows soak_form.operands words place → slice_get words place ≡ Some word → IsNumber 0 most_packets word packets → IsSoak (codes "soak" ∷ words) packets
 soak_is words place word packets r here is =
     let t = one_number words place r in
     let both = sym t.at_number ∙ here in
@@ -892,12 +888,20 @@ same_offence words p q (of_a_rule here fits none) (of_a_word place there stops) 
 same_offence words p q (of_a_rule here fits none) (of_a_rule there others nothing) = here ∙ sym there
 
 -- the words ask only for the command that was read from them
-pub answered_only : (words : List (List ℕ)) (result : Result Command Offence) → IfOk result (λ command. IsCommandLine words (request_of command)) → IfErr result (λ offence. IsOffence words offence.position)
+answered_only : (words : List (List ℕ)) (result : Result Command Offence) → Reads Asks words result
     → (request : Request) → IsCommandLine words request → IsOkAnd result (λ command. request_of command ≡ request)
-answered_only words (Ok command) ok err request line = same_request words (request_of command) request ok line
-answered_only words (Err offence) ok err request line = absurd (no_offence words offence.position request err line)
+answered_only words (Ok command) read request line = same_request words (request_of command) request read.ok line
+answered_only words (Err offence) read request line = absurd (no_offence words offence.position request read.err line)
 
-pub answered_offence : (words : List (List ℕ)) (result : Result Command Offence) → IfOk result (λ command. IsCommandLine words (request_of command)) → IfErr result (λ offence. IsOffence words offence.position)
+answered_offence : (words : List (List ℕ)) (result : Result Command Offence) → Reads Asks words result
     → (position : ℕ) → IsOffence words position → IsErrAnd result (λ offence. offence.position ≡ position)
-answered_offence words (Ok command) ok err position offence = absurd (no_offence words position (request_of command) offence ok)
-answered_offence words (Err o) ok err position offence = same_offence words o.position position err offence
+answered_offence words (Ok command) read position offence = absurd (no_offence words position (request_of command) offence read.ok)
+answered_offence words (Err o) read position offence = same_offence words o.position position read.err offence
+
+pub only_after : (words rest : List (String Global)) (command : String Global) (name : List ℕ) (result : Result Command Offence) → words ≡ command ∷ rest → string_bytes command ≡ name → Reads Asks (name ∷ texts rest) result
+    → (request : Request) → IsCommandLine (texts words) request → IsOkAnd result (λ command. request_of command ≡ request)
+only_after words rest command name result e same read = rw (words_are words rest command name e same) (answered_only (name ∷ texts rest) result read)
+
+pub offence_alone : (words rest : List (String Global)) (command : String Global) (name : List ℕ) (result : Result Command Offence) → words ≡ command ∷ rest → string_bytes command ≡ name → Reads Asks (name ∷ texts rest) result
+    → (position : ℕ) → IsOffence (texts words) position → IsErrAnd result (λ offence. offence.position ≡ position)
+offence_alone words rest command name result e same read = rw (words_are words rest command name e same) (answered_offence (name ∷ texts rest) result read)

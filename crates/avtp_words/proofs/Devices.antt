@@ -11,12 +11,13 @@ use Rattle.avtp_words.specs.declared.device.Silence.{Silence}
 use Rattle.avtp_words.specs.declared.device.Silence.TheVariants.{Zero, Am824}
 use Rattle.avtp_words.specs.Given.{IsGivenSilence}
 use Rattle.avtp_words.specs.Grammar.{IsGivenFile, IsGivenRaw, IsOf, NamedFile, NamedRaw, NamesFile, listen_form}
-use Rattle.avtp_words.specs.Options.{IsSetting, Row, Setting, words_of}
-use Rattle.avtp_words.specs.state.Reading.{are_sound, begins_with_dashes, value_after}
-use Rattle.avtp_words.specs.Word.{IsName, texts}
-use Rattle.avtp_words.proofs.Numbers.{one_dash}
-use Rattle.avtp_words.proofs.Operands.{names}
-use Rattle.avtp_words.proofs.Settings.{name-dash, same-true, setting-value, taken}
+use Rattle.option_words.specs.Options.{IsSetting, Row, Setting, words_of}
+use Rattle.option_words.specs.Tables.{are_sound, begins_with_dashes}
+use Rattle.option_words.specs.Values.{value_after}
+use Rattle.option_words.specs.Word.{IsName, texts}
+use Rattle.option_words.proofs.Numbers.{one_dash}
+use Rattle.option_words.proofs.Operands.{names}
+use Rattle.option_words.proofs.Settings.{name-dash, same-true, setting-value, taken}
 
 -- ---- an option's name is at only one index
 

@@ -6,9 +6,9 @@ use Rattle.std.proofs.lemmas.List.Elements.{Contains-append_left, Contains-appen
 use Rattle.avtp_words.specs.declared.crf.Crf.{Crf}
 use Rattle.avtp_words.specs.declared.talk.Kind.TheVariants.{H264}
 use Rattle.avtp_words.specs.Grammar.{FitsOptions, SaysClock, SaysTalk, Talking}
-use Rattle.avtp_words.specs.Number.{IsNumber}
-use Rattle.avtp_words.specs.Options.{Setting, value_in, words_of}
-use Rattle.avtp_words.proofs.Settings.{same-true}
+use Rattle.option_words.specs.Number.{IsNumber}
+use Rattle.option_words.specs.Options.{Setting, value_in, words_of}
+use Rattle.option_words.proofs.Settings.{same-true}
 
 -- if an option has a value, the option's name is among the words
 has_value : (gs : List Setting) (name word : List ℕ) → value_in name gs ≡ Some word → Contains (flat_map words_of gs) name

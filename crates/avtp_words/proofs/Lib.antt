@@ -1,7 +1,3 @@
-pub mod Numbers
-pub mod Settings
-pub mod Steps
-pub mod Operands
 pub mod CommandLines
 pub mod Rules
 pub mod Clocks

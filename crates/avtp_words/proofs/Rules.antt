@@ -5,11 +5,11 @@ use Rattle.std.specs.Str.{bytes_eq}
 use Rattle.std.specs.declared.alloc.Global.{Global}
 use Rattle.std.proofs.lemmas.Bool.{cases_Bool}
 use Rattle.std.proofs.lemmas.List.Elements.{All-nil, All-cons, All-head, All-tail}
-use Rattle.avtp_words.specs.declared.option.OptionRow.{OptionRow}
+use Rattle.option_words.specs.declared.option.OptionRow.{OptionRow}
 use Rattle.avtp_words.specs.Grammar.{Lacks, Need}
 use Rattle.avtp_words.specs.state.Reading.{names_of}
-use Rattle.avtp_words.specs.Word.{texts}
-use Rattle.avtp_words.proofs.Steps.{absent, present}
+use Rattle.option_words.specs.Word.{texts}
+use Rattle.option_words.proofs.Steps.{absent, present}
 
 -- whether the name of an option is among the words
 abbrev has : List (String Global) → OptionRow → Bool
@@ -33,11 +33,6 @@ all_lack words (row ∷ options) none = elim (cases_Bool (has words row)) [
 pub lack : (words : List (String Global)) (options : List OptionRow) (one : Bool) → one ≡ list_any (has words) options → IsTrue (not one) ↔ Lacks (texts words) (names_of options)
 lack words options true e = ((λ no. absurd (let f : false ≡ true = no in cc)), λ none. absurd (let f : true ≡ false = e ∙ all_lack words options none in cc))
 lack words options false e = ((λ yes. none_has words options (sym e)), λ none. refl)
-
--- the test does not find `name` if and only if `name` is not one of `words`
-pub not_contained : (words : List (String Global)) (name : List ℕ) (tells : Bool) → tells ≡ list_any (λ word. bytes_eq (string_bytes word) name) words → IsTrue (not tells) ↔ (Contains (texts words) name → ⊥)
-not_contained words name true e = ((λ no. absurd (let f : false ≡ true = no in cc)), λ none. absurd (none (present words name (sym e))))
-not_contained words name false e = ((λ yes. absent words name (sym e)), λ none. refl)
 
 pub needed_there : (words : List (List ℕ)) (needed : List ℕ) (options : List (List ℕ)) → Contains words needed → Need words needed options
 needed_there words needed [] there = All-nil (λ option. Contains words option → Contains words needed)

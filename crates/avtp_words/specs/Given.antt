@@ -3,10 +3,10 @@ use Rattle.std.specs.Prelude.{◌≡◌, ℕ, ℤ, List, Option, Some, None, Mat
 use Rattle.aaf_format.specs.declared.aaf.AafFormat.{AafFormat}
 use Rattle.avtp_words.specs.declared.device.Silence.{Silence}
 use Rattle.avtp_words.specs.declared.device.Silence.TheVariants.{Zero, Am824}
-use Rattle.avtp_words.specs.Number.{IsNumber, IsSigned}
+use Rattle.option_words.specs.Number.{IsNumber, IsSigned}
 use Rattle.avtp_words.specs.Limits.{NumberOption, SignedOption}
-use Rattle.avtp_words.specs.Word.{IsId}
-use Rattle.avtp_words.specs.Options.{Setting, value_in, format_name}
+use Rattle.option_words.specs.Word.{IsId}
+use Rattle.option_words.specs.Options.{Setting, value_in, format_name}
 
 -- If the option is given, its value spells `n`, which is in the option's range. If the option is not given, it has a
 -- default, which is `n`.

@@ -1,5 +1,5 @@
 -- The grammar of the command line, and the first word that breaks it.
-use Rattle.std.specs.Prelude.{◌≡◌, ◌≢◌, ℕ, ℤ, pos, ◌+◌, ◌*◌, ◌/◌, ◌%◌, ◌≤◌, ◌↔◌, ⊤, All, Bool, IsTrue, Contains, List, [], ◌∷◌, ◌++◌, drop, flat_map, length, codes, Option, None, Some, IsSomeAnd, IfSome, option_map, slice_get}
+use Rattle.std.specs.Prelude.{◌≡◌, ◌≢◌, ℕ, ℤ, pos, ◌+◌, ◌*◌, ◌/◌, ◌%◌, ◌≤◌, ◌↔◌, ⊤, All, Bool, IsTrue, Contains, List, [], ◌∷◌, ◌++◌, drop, flat_map, codes, Option, None, Some, IsSomeAnd, IfSome, option_map, slice_get}
 use Rattle.std.specs.List.{find}
 use Rattle.std.specs.Str.{bytes_eq}
 use Rattle.aaf_format.specs.declared.aaf.AafFormat.{AafFormat}
@@ -16,21 +16,23 @@ use Rattle.avtp_words.specs.declared.device.RawFile.{RawFile}
 use Rattle.avtp_words.specs.declared.device.Silence.{Silence}
 use Rattle.avtp_words.specs.declared.gateway.Gateway.{Gateway as AskedGateway}
 use Rattle.avtp_words.specs.declared.gateway.GatewayFormat.{GatewayFormat}
+use Rattle.avtp_words.specs.declared.gateway.GatewayFormat.TheVariants as format
 use Rattle.avtp_words.specs.declared.listen.Listen.{Listen as AskedListen}
 use Rattle.avtp_words.specs.declared.listener.ListenerOptions.{ListenerOptions}
 use Rattle.avtp_words.specs.declared.talk.Talk.{Talk as AskedTalk}
 use Rattle.avtp_words.specs.declared.talk.Kind.{Kind}
 use Rattle.avtp_words.specs.declared.talk.Kind.TheVariants.{Aaf, Am824, H264}
-use Rattle.avtp_words.specs.declared.operand.Operand.{Operand}
-use Rattle.avtp_words.specs.declared.operand.Operand.TheVariants as operand
-use Rattle.avtp_words.specs.declared.option.Takes.TheVariants as takes
+use Rattle.option_words.specs.declared.operand.Operand.{Operand}
+use Rattle.option_words.specs.declared.operand.Operand.TheVariants as operand
+use Rattle.option_words.specs.declared.option.Takes.TheVariants as takes
 use Rattle.avtp_words.specs.Given.{IsGiven, IsGivenFormat, IsGivenId, IsGivenIdIf, IsGivenIf, IsGivenSigned, IsGivenSilence}
 use Rattle.avtp_words.specs.Limits as limits
 use Rattle.avtp_words.specs.Limits.{default_rate, number, signed, with_default}
-use Rattle.avtp_words.specs.Number.{IsNumber}
-use Rattle.avtp_words.specs.Operands.{AreOperands}
-use Rattle.avtp_words.specs.Word.{texts, IsId}
-use Rattle.avtp_words.specs.Options.{Row, Setting, words_of, AreSettings, gateway_format_name, value_in}
+use Rattle.option_words.specs.Number.{IsNumber}
+use Rattle.option_words.specs.Operands.{AreOperands, most_packets}
+use Rattle.option_words.specs.Lines.{StopsAt}
+use Rattle.option_words.specs.Word.{texts, IsId}
+use Rattle.option_words.specs.Options.{Row, Setting, words_of, AreSettings, value_in}
 
 -- ---- what a command line asks for, with plain bytes instead of borrowed strings
 
@@ -343,7 +345,7 @@ pub record IsSoak (words : List (List ℕ)) (packets : ℕ) : Type 0 where
   pub settings : List Setting
   pub number : List ℕ
   pub line : IsOf soak_form words settings (number ∷ [])
-  pub packets_given : IsNumber 0 limits.packets number packets
+  pub packets_given : IsNumber 0 most_packets number packets
 
 -- `words` are an `agree` command line, and `asked` is what `words` ask for
 pub record SaysAgree (words : List (List ℕ)) (asked : Agreeing) : Type 0 where
@@ -351,6 +353,11 @@ pub record SaysAgree (words : List (List ℕ)) (asked : Agreeing) : Type 0 where
   pub id : List ℕ
   pub line : IsOf agree_form words settings (id ∷ asked.a ∷ asked.b ∷ [])
   pub listener : SaysListener settings id asked.listener
+
+-- the word that names a format that `gateway` writes
+abbrev pub gateway_format_name : GatewayFormat → List ℕ
+gateway_format_name format.Am824 = codes "am824"
+gateway_format_name format.Aaf = codes "aaf"
 
 -- `words` fit the form of `gateway` and give `--to`, and `asked` is what `words` ask for. If `--id` is not given, the
 -- stream keeps its ID.
@@ -538,28 +545,6 @@ pub record IsLine (words : List (List ℕ)) : Type 0 where
   pub settings : List Setting
   pub names : List (List ℕ)
   pub line : IsOf form words settings names
-
--- `words` begin a line of `L`: for some list `more`, which can be empty, `words ++ more` is a line of `L`
-pub record Begins (L : List (List ℕ) → Type 0) (words : List (List ℕ)) : Type 0 where
-  pub more : List (List ℕ)
-  pub whole : L (words ++ more)
-
--- If a word follows the words `before`, no line of `L` begins with `before` and this word. If no word follows, the
--- words `before` are not a line of `L`.
-abbrev pub Stops : (List (List ℕ) → Type 0) → List (List ℕ) → List (List ℕ) → Type 0
-Stops L before [] = L before → ⊥
-Stops L before (next ∷ _) = Begins L (before ++ next ∷ []) → ⊥
-
--- The first wrong word is at index `place`. The words before index `place` begin a line of `L`. The words up to and
--- including index `place` begin no line of `L`. If there are only `place` words, a word is missing. If a word is
--- missing, `words` begin a line of `L`, but are not a whole line.
-pub record StopsAt (L : List (List ℕ) → Type 0) (words : List (List ℕ)) (place : ℕ) : Type 0 where
-  pub before : List (List ℕ)
-  pub rest : List (List ℕ)
-  pub split : words ≡ before ++ rest
-  pub here : place ≡ length before
-  pub begins : Begins L before
-  pub stops : Stops L before rest
 
 -- The position, counted from 1, of what is wrong with `words`.
 pub data IsOffence (words : List (List ℕ)) (position : ℕ) : Type 0 where

@@ -1,9 +1,9 @@
 -- The limits on the words of a command line, in one table.
 use Rattle.std.specs.Prelude.{ℕ, ℤ, pos, ◌*◌, ◌^◌, List, Option, Some, None, codes}
-use Rattle.avtp_words.specs.declared.option.Takes.TheVariants.{Number, Signed}
+use Rattle.option_words.specs.declared.option.Takes.TheVariants.{Number, Signed}
 use Rattle.avtp_words.specs.declared.talk.Kind.{Kind}
 use Rattle.avtp_words.specs.declared.talk.Kind.TheVariants.{Aaf, Am824, H264}
-use Rattle.avtp_words.specs.Options.{Row}
+use Rattle.option_words.specs.Options.{Row}
 
 -- an option that takes a number: its name, the least and the greatest value, and its default, if any
 pub record NumberOption : Type 0 where
@@ -111,10 +111,6 @@ crf_rate = option (codes "--crf-rate") 1 200000000 None
 -- talk: the code of the factor by which the media clock's base frequency is multiplied
 abbrev pub crf_pull : NumberOption
 crf_pull = option (codes "--crf-pull") 0 5 (Some 0)
-
--- soak: the maximum number of packets
-abbrev pub packets : ℕ
-packets = 1000000
 
 -- talk: the default stream ID
 abbrev pub talk_id : ℕ

@@ -1,5 +1,4 @@
 -- Only private functions and proofs use these definitions.
 pub mod Answers
-pub mod Number
 pub mod Operands
 pub mod Reading

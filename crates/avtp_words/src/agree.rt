@@ -1,9 +1,8 @@
 //! The command `agree`: which two captures to compare.
 
 ghost use Rattle.std.specs.Prelude.{◌∷◌, codes};
-ghost use Rattle.avtp_words.specs.Grammar.{SaysAgree, agreeing_of};
 ghost use Rattle.avtp_words.specs.state.Answers.{Asks, Reads};
-ghost use Rattle.avtp_words.specs.Word.{texts};
+ghost use Rattle.option_words.specs.Word.{texts};
 
 use crate::command::{Command, Offence};
 use crate::limits::AGREE_OPTIONS;
@@ -25,13 +24,6 @@ pub struct Agree<'a> {
 pub fn read_agree(words: &[String]) -> Result<Command<'_>, Offence>
     ensures { Reads Asks (codes "agree" ∷ texts words.now) result }
 {
-    let asked = read_words(words)?;
-    Ok(Command::Agree(asked))
-}
-
-fn read_words(words: &[String]) -> Result<Agree<'_>, Offence>
-    ensures { Reads (λ line asked. SaysAgree line (agreeing_of asked)) (codes "agree" ∷ texts words.now) result }
-{
     let place = operands_at(&AGREE_OPTIONS, &STREAM_OPERANDS, words)?;
     let StreamAndTwo {
         stream,
@@ -39,5 +31,5 @@ fn read_words(words: &[String]) -> Result<Agree<'_>, Offence>
         second: b,
     } = stream_and_two(&words[place..]);
     let listener = listener_after(&words[..place], stream);
-    Ok(Agree { listener, a, b })
+    Ok(Command::Agree(Agree { listener, a, b }))
 }

@@ -1,18 +1,17 @@
 //! The commands, and how a command is read from words.
 
-ghost use Rattle.std.specs.Prelude.{◌≡◌, ℕ, ◌+◌, ◌-◌, ◌^◌, ◌<◌, ◌∷◌, codes, IfOk, IfErr, IsOkAnd, IsErrAnd};
+ghost use Rattle.std.specs.Prelude.{◌≡◌, ℕ, ◌∷◌, codes, IfOk, IfErr, IsOkAnd, IsErrAnd};
 ghost use Rattle.avtp_words.specs.Grammar.{Request, request_of, IsCommandLine, IsOffence};
 ghost use Rattle.avtp_words.specs.state.Answers.{Asks, Reads};
-ghost use Rattle.avtp_words.specs.Word.{texts};
+ghost use Rattle.option_words.specs.Word.{texts};
 
 use crate::agree::{Agree, read_agree};
 use crate::gateway::{Gateway, read_gateway};
 use crate::limits::{CHECK_OPTIONS, LIMIT, MAX_LIMIT, SHOW_OPTIONS, SOAK_OPTIONS};
 use crate::listen::{Listen, read_listen};
-use crate::operand::{Operand, operands_at, packets_of};
-use crate::option::word_at;
+use crate::operand::operands_at;
 use crate::talk::{Talk, read_talk};
-use crate::value::number_after;
+use option_words::{Operand, number_after, packets_of, word_at};
 
 /// The command that a command line asks for.
 #[derive(Clone, Copy, Debug, PartialEq, Eq)]
@@ -42,18 +41,6 @@ pub struct Offence {
     /// The position, counted from 1, of the first wrong word. If a word is missing, the position is one past the last
     /// word. If no word by itself is wrong or missing, but the words are not a command line, the position is 1.
     pub position: usize,
-}
-
-impl Offence {
-    /// The offence at the word with index `place` among the words after the command.
-    pub(crate) fn after_command(place: usize) -> Offence
-        requires { place < 2 ^ 64 - 2 }
-        ensures { result.position ≡ place + 2 }
-    {
-        Offence {
-            position: place + 2,
-        }
-    }
 }
 
 const SHOW_OPERANDS: [Operand; 1] = [Operand::Name];

@@ -1,17 +1,16 @@
 //! The media clock that `talk` sends with a stream.
 
-ghost use Rattle.std.specs.Prelude.{◌≡◌, ◌*◌, ◌≤◌, ◌↔◌, IsTrue};
-ghost use Rattle.clock_track.specs.Pairs.{pull_up as pull_up_of};
-ghost use Rattle.avtp_words.specs.Grammar.{FitsClock, FitsStream, HasWholeRuns};
+ghost use Rattle.std.specs.Prelude.{◌↔◌, IsTrue};
+ghost use Rattle.avtp_words.specs.Grammar.{FitsClock, HasWholeRuns};
 ghost use Rattle.avtp_words.specs.state.Reading.{ClockIsWithin, IsEvents, IsReadClock, IsSpacing, IsWithin};
-ghost use Rattle.avtp_words.specs.Word.{texts};
+ghost use Rattle.option_words.specs.Word.{texts};
 
 use crate::limits::{
     CRF, CRF_INTERVAL, CRF_INTERVAL_DEFAULT, CRF_POINTS, CRF_POINTS_DEFAULT, CRF_PULL,
     CRF_PULL_DEFAULT, CRF_RATE,
 };
-use crate::value::{byte_after, id_if, short_number_after, small_number_after};
 use clock_track::{pull_down, pull_up};
+use option_words::{byte_after, id_if, short_number_after, small_number_after};
 
 /// A media clock that is sent with a stream (IEEE 1722-2016, 10). The clock's timestamps are at whole sample frames of
 /// the stream. If the stream restarts, there is a whole number of clock packets between two restarts, and this number
@@ -52,30 +51,16 @@ pub fn fits_clock(crf: Option<Crf>, rate: u32, count: u32, restart: Option<u32>)
     ensures { IsTrue result ↔ FitsClock crf rate count restart }
 {
     match crf {
-        Some(crf) => crf.fits(rate, count, restart),
+        Some(crf) => {
+            let up = u64::from(crf.rate) * pull_up(crf.pull);
+            let events = crf.events_by(rate);
+            events % up == 0 && crf.has_whole_runs(events / up, rate, count, restart)
+        }
         None => true,
     }
 }
 
 impl Crf {
-    fn fits(self, rate: u32, count: u32, restart: Option<u32>) -> bool
-        requires { IsWithin self rate }
-        ensures { IsTrue result ↔ FitsStream self rate count restart }
-    {
-        let up = self.frequency_up();
-        let events = self.events_by(rate);
-        events % up == 0 && self.has_whole_runs(events / up, rate, count, restart)
-    }
-
-    /// The clock's frequency times the denominator of its pull factor.
-    fn frequency_up(self) -> u64
-        requires { 1 ≤ self.rate }
-        ensures value { result ≡ self.rate * pull_up_of self.pull }
-        ensures some { 1 ≤ result }
-    {
-        u64::from(self.rate) * pull_up(self.pull)
-    }
-
     /// The product of the clock's interval, `rate`, and the denominator of the pull factor.
     fn events_by(self, rate: u32) -> u64
         requires { IsWithin self rate }
@@ -87,8 +72,7 @@ impl Crf {
     /// Whether the number of clock packets between two restarts is whole and a multiple of 8. True if there are no
     /// restarts.
     fn has_whole_runs(self, spacing: u64, rate: u32, count: u32, restart: Option<u32>) -> bool
-        requires spacing { IsSpacing self rate spacing }
-        requires some_points { 1 ≤ self.points }
+        requires { IsSpacing self rate spacing }
         ensures { IsTrue result ↔ HasWholeRuns self rate count restart }
     {
         match restart {

@@ -1,12 +1,13 @@
 //! The files that `listen` writes besides what it prints.
 
-ghost use Rattle.std.specs.Prelude.{◌≡◌, ◌≢◌, ◌↔◌, codes, Contains, IfSome, IsTrue, option_map};
+ghost use Rattle.std.specs.Prelude.{◌≢◌, ◌↔◌, codes, Contains, IfSome, IsTrue, option_map};
 ghost use Rattle.avtp_words.specs.Grammar.{named_file, named_raw};
-ghost use Rattle.avtp_words.specs.state.Reading.{IsReadFile, IsReadRaw, IsReadSilence, value_after};
-ghost use Rattle.avtp_words.specs.Word.{texts};
+ghost use Rattle.avtp_words.specs.state.Reading.{IsReadFile, IsReadRaw, IsReadSilence};
+ghost use Rattle.option_words.specs.Values.{value_after};
+ghost use Rattle.option_words.specs.Word.{texts};
 
 use crate::limits::{RAW, SILENCE};
-use crate::option::{lacks_word, place_of, word_after, word_at};
+use option_words::{lacks_word, place_of, word_after, word_at};
 
 /// A file that is written.
 #[derive(Clone, Copy, Debug, PartialEq, Eq)]

@@ -1,18 +1,16 @@
 //! The command `gateway`: which stream of a capture to convert to the other format.
 
 ghost use Rattle.std.specs.Prelude.{◌≡◌, ◌∷◌, codes, Some, take};
-ghost use Rattle.avtp_words.specs.Grammar.{SaysGateway, gateway_form, turning_of};
-ghost use Rattle.avtp_words.specs.Options.{gateway_format_name};
-ghost use Rattle.avtp_words.specs.state.Answers.{Asks, Finds, Reads};
-ghost use Rattle.avtp_words.specs.state.Reading.{IsRestTo, value_after};
-ghost use Rattle.avtp_words.specs.Word.{texts};
+ghost use Rattle.avtp_words.specs.Grammar.{SaysGateway, gateway_form, turning_of, gateway_format_name};
+ghost use Rattle.avtp_words.specs.state.Answers.{Asks, Reads};
+ghost use Rattle.option_words.specs.Values.{Finds, value_after};
+ghost use Rattle.option_words.specs.Word.{texts};
 
 use crate::command::{Command, Offence};
 use crate::limits::{GATEWAY_OPTIONS, ID, TO};
 use crate::listener::{ListenerOptions, listener_after};
 use crate::operand::{STREAM_OPERANDS, StreamAndTwo, operands_at, stream_and_two};
-use crate::option::word_after;
-use crate::value::id_after;
+use option_words::{id_after, word_after};
 
 /// A format that `gateway` writes.
 #[derive(Clone, Copy, Debug, PartialEq, Eq)]
@@ -47,50 +45,33 @@ pub fn read_gateway(words: &[String]) -> Result<Command<'_>, Offence>
     let Some(to) = format_after(&words[..place]) else {
         return Err(Offence { position: 1 });
     };
-    let asked = read_words(words, place, to);
-    if asked.input != asked.output {
-        Ok(Command::Gateway(asked))
-    } else {
-        Err(Offence { position: 1 })
-    }
-}
-
-/// What the words after `gateway` ask for. The first operand is at index `place`. The options before the first operand
-/// give the format `to`.
-fn read_words(words: &[String], place: usize, to: GatewayFormat) -> Gateway<'_>
-    requires rest { IsRestTo gateway_form.rows gateway_form.operands (texts words.now) place }
-    requires to { value_after (codes "--to") (texts (take place words.now)) ≡ Some (gateway_format_name to) }
-    ensures { SaysGateway (codes "gateway" ∷ texts words.now) (turning_of result) }
-{
     let StreamAndTwo {
         stream,
         first: input,
         second: output,
     } = stream_and_two(&words[place..]);
     let options = &words[..place];
-    Gateway {
-        listener: listener_after(options, stream),
+    let listener = listener_after(options, stream);
+    let id = id_after(options, ID.name, stream);
+    if input == output {
+        return Err(Offence { position: 1 });
+    }
+    Ok(Command::Gateway(Gateway {
+        listener,
         to,
-        id: id_after(options, ID.name, stream),
+        id,
         input,
         output,
-    }
+    }))
 }
 
 /// The format that `--to` gives, if `--to` is given.
 fn format_after(options: &[String]) -> Option<GatewayFormat>
     ensures { Finds (λ to. value_after (codes "--to") (texts options.now) ≡ Some (gateway_format_name to)) result }
 {
-    gateway_format_of(word_after(options, TO.name)?)
-}
-
-/// The format that a word after `--to` names.
-pub fn gateway_format_of(word: &str) -> Option<GatewayFormat>
-    ensures { Finds (λ format. word.now ≡ gateway_format_name format) result }
-{
-    match word {
-        "am824" => Some(GatewayFormat::Am824),
-        "aaf" => Some(GatewayFormat::Aaf),
+    match word_after(options, TO.name) {
+        Some("am824") => Some(GatewayFormat::Am824),
+        Some("aaf") => Some(GatewayFormat::Aaf),
         _ => None,
     }
 }

@@ -10,11 +10,9 @@ mod gateway;
 mod limits;
 mod listen;
 mod listener;
-mod number;
 mod operand;
-mod option;
+mod rule;
 mod talk;
-mod value;
 
 pub use agree::Agree;
 pub use command::{Command, Offence, parse};

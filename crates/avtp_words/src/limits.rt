@@ -1,7 +1,7 @@
 //! The options of each command in one table: their names, ranges and defaults.
 
-use crate::option::{OptionRow, Takes};
 use aaf_format::AafFormat;
+use option_words::{OptionRow, Takes};
 
 /// The greatest value of `--limit`, and also its default: 1 TiB. The option limits how many bytes of a capture are
 /// read.
@@ -350,9 +350,6 @@ pub const CRF_PULL_DEFAULT: u8 = 0;
 
 /// `soak` has no options.
 pub const SOAK_OPTIONS: [OptionRow; 0] = [];
-
-/// The greatest number of packets that `soak` accepts.
-pub const MAX_PACKETS: u64 = 1_000_000;
 
 /// The maximum number of sample bytes in an AAF packet. An Ethernet frame carries 1,500 bytes, and the header takes 24
 /// of them.

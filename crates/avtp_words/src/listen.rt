@@ -3,15 +3,15 @@
 ghost use Rattle.std.specs.Prelude.{◌∷◌, ◌↔◌, codes, IsTrue};
 ghost use Rattle.avtp_words.specs.Grammar.{KeepsNames, SaysListen, listening_of};
 ghost use Rattle.avtp_words.specs.state.Answers.{Asks, Reads, ReadsListen};
-ghost use Rattle.avtp_words.specs.Word.{texts};
+ghost use Rattle.option_words.specs.Word.{texts};
 
 use crate::command::{Command, Offence};
 use crate::device::{DeviceFile, RawFile, are_apart, file_after, is_new, is_new_raw, raw_after};
 use crate::limits::{ANNEXB, LISTEN_OPTIONS, RAW, RAW_OPTIONS, RING, RING_DEFAULT};
 use crate::listener::{ListenerOptions, listener_after};
-use crate::operand::{Operand, id_of, operands_at};
-use crate::option::{have_needed, word_at};
-use crate::value::small_number_after;
+use crate::operand::operands_at;
+use crate::rule::have_needed;
+use option_words::{Operand, id_of, small_number_after, word_at};
 
 /// The stream to listen to, its listener, and the files to read and write.
 #[derive(Clone, Copy, Debug, PartialEq, Eq)]

@@ -1,13 +1,13 @@
 //! The listener that the options of `listen`, `agree` and `gateway` ask for.
 
 ghost use Rattle.avtp_words.specs.state.Answers.{ReadsListener};
-ghost use Rattle.avtp_words.specs.Word.{texts};
+ghost use Rattle.option_words.specs.Word.{texts};
 
 use crate::limits::{
     BUFFER, BUFFER_DEFAULT, CLOCK, CRF_SHIFT, CRF_SHIFT_DEFAULT, LEAD_DEFAULT, LIMIT, LISTEN_LEAD,
     LOOK, LOOK_DEFAULT, MAX_LIMIT, ROOM, ROOM_DEFAULT,
 };
-use crate::value::{id_if, number_after, signed_number_after, small_number_after};
+use option_words::{id_if, number_after, signed_number_after, small_number_after};
 
 /// A stream to listen to, and the bounds and the media clock of its listener.
 #[derive(Clone, Copy, Debug, PartialEq, Eq)]

@@ -1,51 +1,14 @@
 //! The operands of a command: the words after its options.
 
-ghost use Rattle.std.specs.Prelude.{◌≡◌, ◌↔◌, IsTrue};
-ghost use Rattle.avtp_words.specs.Limits as limits;
-ghost use Rattle.avtp_words.specs.Number.{IsNumber};
-ghost use Rattle.avtp_words.specs.Operands.{AreOperands, IsOperand};
-ghost use Rattle.avtp_words.specs.state.Answers.{Finds, FindsOperands, FindsUnnamed, FindsWrong};
-ghost use Rattle.avtp_words.specs.state.Operands.{NameStreamAndTwo, stream_operands, takes_all as takes_all_of};
-ghost use Rattle.avtp_words.specs.state.Reading.{are_sound, rows_of};
-ghost use Rattle.avtp_words.specs.Word.{texts, IsName, IsId};
+ghost use Rattle.std.specs.Prelude.{IsTrue};
+ghost use Rattle.avtp_words.specs.state.Answers.{FindsOperands};
+ghost use Rattle.avtp_words.specs.state.Operands.{NameStreamAndTwo, stream_operands};
+ghost use Rattle.option_words.specs.Operands.{AreOperands};
+ghost use Rattle.option_words.specs.Tables.{are_sound, rows_of};
+ghost use Rattle.option_words.specs.Word.{texts};
 
 use crate::command::Offence;
-use crate::limits::MAX_PACKETS;
-use crate::number::number_of;
-use crate::option::{OptionRow, begins_with_dash, options_len};
-
-/// The type of an operand.
-#[derive(Clone, Copy)]
-pub enum Operand {
-    /// A stream ID.
-    Id,
-    /// The name of a file.
-    Name,
-    /// The number of packets of `soak`. If the number is out of range, the offence is at the number.
-    Packets,
-    /// The names of files: all remaining words, at least one. No option can follow the first name. The same file can be
-    /// named more than once.
-    Names,
-}
-
-impl Operand {
-    fn accepts(self, word: &str) -> bool
-        ensures { IsTrue result ↔ IsOperand self word.now }
-    {
-        match self {
-            Operand::Id => id_of(word).is_some(),
-            Operand::Packets => packets_of(word).is_some(),
-            Operand::Name | Operand::Names => is_name(word),
-        }
-    }
-
-    /// Whether the operand takes all remaining words.
-    fn takes_all(self) -> bool
-        ensures { result ≡ takes_all_of self }
-    {
-        matches!(self, Operand::Names)
-    }
-}
+use option_words::{Operand, OptionRow, first_operand, id_of};
 
 /// The operands of `agree` and `gateway`: a stream ID and the names of two captures.
 pub const STREAM_OPERANDS: [Operand; 3] = [Operand::Id, Operand::Name, Operand::Name];
@@ -75,71 +38,6 @@ pub fn stream_and_two(operands: &[String]) -> StreamAndTwo<'_>
     }
 }
 
-/// The stream ID that `word` spells in sixteen hexadecimal digits, in lower or upper case.
-pub fn id_of(word: &str) -> Option<u64>
-    ensures { Finds (IsId word.now) result }
-{
-    let mut bytes = [0u8; 8];
-    match hex::decode_to_slice(word.as_bytes(), &mut bytes) {
-        Ok(()) => Some(u64::from_be_bytes(bytes)),
-        Err(_) => None,
-    }
-}
-
-/// The number of packets that `word` spells, 0 to 1,000,000.
-pub fn packets_of(word: &str) -> Option<u32>
-    ensures { Finds (IsNumber 0 limits.packets word.now) result }
-{
-    let n = number_of(word)?;
-    if n <= MAX_PACKETS {
-        Some(n as u32)
-    } else {
-        None
-    }
-}
-
-/// Whether a word can be the name of a file.
-pub fn is_name(word: &str) -> bool
-    ensures { IsTrue result ↔ IsName word.now }
-{
-    !word.is_empty() && !begins_with_dash(word)
-}
-
-/// The index of the first word that is not a name.
-fn first_unnamed(words: &[String]) -> Option<usize>
-    ensures { FindsUnnamed words.now result }
-{
-    for (place, word) in words.iter().enumerate() {
-        if !is_name(word.as_str()) {
-            return Some(place);
-        }
-    }
-    None
-}
-
-/// The index of the first wrong word. A word is wrong in two cases: no operand takes the word, or the word is not valid
-/// as the operand that takes it. A missing word is wrong, too.
-fn first_wrong(operands: &[Operand], words: &[String]) -> Option<usize>
-    ensures { FindsWrong operands.now words.now result }
-{
-    match (operands.split_first(), words.split_first()) {
-        (None, None) => None,
-        (Some((operand, operands)), Some((word, rest))) => {
-            if operand.takes_all() {
-                first_unnamed(words)
-            } else if operand.accepts(word.as_str()) {
-                match first_wrong(operands, rest) {
-                    Some(place) => Some(place + 1),
-                    None => None,
-                }
-            } else {
-                Some(0)
-            }
-        }
-        _ => Some(0),
-    }
-}
-
 /// The index of the first operand in `words`, the words after a command. The position of an offence is counted on the
 /// whole command line; the command has position 1.
 pub fn operands_at(
@@ -150,12 +48,10 @@ pub fn operands_at(
     requires { IsTrue (are_sound (rows_of rows.now)) }
     ensures { FindsOperands (rows_of rows.now) operands.now words.now result }
 {
-    let place = match options_len(rows, words) {
-        Ok(place) => place,
-        Err(place) => return Err(Offence::after_command(place)),
-    };
-    match first_wrong(operands, &words[place..]) {
-        Some(wrong) => Err(Offence::after_command(place + wrong)),
-        None => Ok(place),
+    match first_operand(rows, operands, words) {
+        Ok(place) => Ok(place),
+        Err(place) => Err(Offence {
+            position: place + 2,
+        }),
     }
 }

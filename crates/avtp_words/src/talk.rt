@@ -7,9 +7,9 @@ ghost use Rattle.aaf_format.specs.Aaf.{rate_of as rate_of_code};
 ghost use Rattle.iec61883_format.specs.Iec.{rate_of_fdf as rate_of_fdf_code, syt_interval as interval_of_code};
 ghost use Rattle.avtp_words.specs.Grammar.{FitsBlocks, FitsKind, FitsSamples, FitsOptions, KeepsRules, Lacks, SaysTalk, lacking, talking_of};
 ghost use Rattle.avtp_words.specs.state.Answers.{Asks, Reads, ReadsTalk};
-ghost use Rattle.avtp_words.specs.state.Reading.{ClockIsWithin, IsReadKind, IsReadOf, is_long_enough as is_enough, suits as suits_of};
+ghost use Rattle.avtp_words.specs.state.Reading.{ClockIsWithin, IsReadKind, IsReadOf, suits as suits_of};
 ghost use Rattle.avtp_words.specs.Limits.{default_rate as default_rate_of, start as start_limits};
-ghost use Rattle.avtp_words.specs.Word.{texts};
+ghost use Rattle.option_words.specs.Word.{texts};
 
 use crate::command::{Command, Offence};
 use crate::crf::{Crf, crf_after, fits_clock};
@@ -20,13 +20,14 @@ use crate::limits::{
     RESTART, RESTART_OPTIONS, SPARSE, START, START_DEFAULT, TALK_LEAD, TALK_OPTIONS,
     VIDEO_RATE_DEFAULT,
 };
-use crate::operand::{Operand, operands_at};
-use crate::option::{contains, have_needed, lacks, word_after, word_at};
-use crate::value::{
-    format_after, id_after, number_after, short_number_after, small_number_after, small_number_if,
-};
+use crate::operand::operands_at;
+use crate::rule::{have_needed, lacks};
 use aaf_format::{AafFormat, rate_of, width_of};
 use iec61883_format::{rate_of_fdf, syt_interval};
+use option_words::{
+    Operand, contains, format_after, id_after, number_after, short_number_after,
+    small_number_after, small_number_if, word_after, word_at,
+};
 
 /// The kind of a stream.
 #[derive(Clone, Copy, Debug, PartialEq, Eq)]
@@ -262,14 +263,10 @@ fn has_suiting(codes: &[u8], rate: u32, count: u32) -> bool
 fn suits(fdf: u8, rate: u32, count: u32) -> bool
     ensures { result ≡ suits_of rate count fdf }
 {
-    rate_of_fdf(fdf) == Some(rate) && is_long_enough(fdf, count)
-}
-
-fn is_long_enough(fdf: u8, count: u32) -> bool
-    ensures { result ≡ is_enough (interval_of_code fdf) count }
-{
     match syt_interval(fdf) {
-        Some(interval) => u64::from(interval) <= 8 * u64::from(count),
+        Some(interval) => {
+            rate_of_fdf(fdf) == Some(rate) && u64::from(interval) <= 8 * u64::from(count)
+        }
         None => false,
     }
 }

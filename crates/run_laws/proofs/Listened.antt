@@ -23,7 +23,7 @@ use Rattle.talker.specs.Frames.{capture}
 use Rattle.talker.specs.Journal.{journal}
 use Rattle.talked_presented.specs.Whole.{ArePresented, default_listener}
 use Rattle.avtp_words.specs.Grammar.{listen, Listening}
-use Rattle.avtp_words.specs.Word.{IsId, IsName}
+use Rattle.option_words.specs.Word.{IsId, IsName}
 use Rattle.avtp_text.specs.Notices.{read_fault_line}
 use Rattle.avtp_tool.specs.declared.status.Status.{Status}
 use Rattle.avtp_tool.specs.declared.status.Status.TheVariants as status

@@ -11,7 +11,7 @@ use Rattle.talker.proofs.TalkLemmas.{none_late}
 use Rattle.talker.specs.Frames.{capture}
 use Rattle.talked_presented.specs.Examples.{plain}
 use Rattle.avtp_words.specs.Grammar.{talk}
-use Rattle.avtp_words.specs.Word.{IsName}
+use Rattle.option_words.specs.Word.{IsName}
 use Rattle.avtp_tool.specs.declared.status.Status.{Status}
 use Rattle.avtp_tool.specs.declared.status.Status.TheVariants as status
 use Rattle.avtp_tool.specs.Made.{MakesOutput}

@@ -4,10 +4,10 @@ use Rattle.std.specs.List.{AllByRecursion}
 use Rattle.std.proofs.lemmas.List.Elements.{All-nil, All-contains, All-from_recursion}
 use Rattle.hex.specs.Hex.{decode_pairs}
 use Rattle.avtp_words.specs.Grammar.{IsCommandLine, Lacks, Need, lacking, listen, listen_form, of_clock, of_raw, of_restart, talk, talk_form}
-use Rattle.avtp_words.specs.Options.{AreSettings, IsSetting, Row}
-use Rattle.avtp_words.specs.Word.{BeginsWithDash, IsId, IsName}
-use Rattle.avtp_words.proofs.Operands.{id_name}
-use Rattle.avtp_words.proofs.Settings.{name-dash}
+use Rattle.option_words.specs.Options.{AreSettings, IsSetting, Row}
+use Rattle.option_words.specs.Word.{BeginsWithDash, IsId, IsName}
+use Rattle.option_words.proofs.Operands.{id_name}
+use Rattle.option_words.proofs.Settings.{name-dash}
 use Rattle.talked_presented.specs.Examples.{plain}
 use Rattle.avtp_tool.specs.Talk.{talk_plan}
 use Rattle.run_laws.specs.Defaults.{listen_default, listen_words, talk_default, talk_words}

@@ -8,7 +8,7 @@ ghost use Rattle.talker.specs.Frames.{capture};
 ghost use Rattle.talked_presented.specs.Examples.{plain};
 ghost use Rattle.talked_presented.specs.Whole.{HasDefaultLead, IsDefaultVideo, default_listener, unit_ends};
 ghost use Rattle.avtp_words.specs.Grammar.{IsCommandLine, listen, talk};
-ghost use Rattle.avtp_words.specs.Word.{IsId, IsName};
+ghost use Rattle.option_words.specs.Word.{IsId, IsName};
 ghost use Rattle.avtp_tool.specs.declared.status.Status.{Status};
 ghost use Rattle.avtp_tool.specs.declared.status.Status.TheVariants.{Done, Memory, WriteFault};
 ghost use Rattle.avtp_tool.specs.Listen.{plan_of};

@@ -103,3 +103,19 @@ pub record CountsOf (order : Order) (first : ℕ) (later : List ℕ) : Type 0 wh
   pub most_lost : order.most_lost ≡ most_passed first later
   pub repeated : order.repeated.count ≡ repeats first later
   pub late : order.late.count ≡ late first later
+
+-- `old` becomes `new` by the next packet, whose sequence number is `seq`. The counts are right again, and `result` is
+-- the packet's place.
+pub record CountsNext (old new : Order) (seq : ℕ) (result : Place) : Type 0 where
+  pub counts : (first : ℕ) (later : List ℕ) (number : ℕ) → CountsOf old first later → Follows first later number → number % 256 ≡ seq
+      → Few first (number ∷ later) → CountsOf new first (number ∷ later)
+  pub place : (first : ℕ) (later : List ℕ) (number : ℕ) → CountsOf old first later → Follows first later number → number % 256 ≡ seq
+      → result ≡ place_of first later number
+
+-- `old` becomes `new` by the next packet, whose sequence number is `seq`, and which is ahead of the newest by at most
+-- 256. The counts are right again, and `result` packets are missing between the newest packet and the next.
+pub record CountsAhead (old new : Order) (seq result : ℕ) : Type 0 where
+  pub counts : (first : ℕ) (later : List ℕ) (number : ℕ) → CountsOf old first later → Passes first later number → number % 256 ≡ seq
+      → Few first (number ∷ later) → CountsOf new first (number ∷ later)
+  pub missing : (first : ℕ) (later : List ℕ) (number : ℕ) → CountsOf old first later → Passes first later number → number % 256 ≡ seq
+      → result ≡ number - greatest first later - 1

@@ -1,4 +1,3 @@
 -- Only private functions and proofs use these definitions.
 pub mod Bits
-pub mod Places
 pub mod Orders

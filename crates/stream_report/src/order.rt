@@ -1,9 +1,9 @@
 //! How many packets of a stream are lost, how many arrived more than once, and how many arrived after packets with
 //! later numbers.
 
-ghost use Rattle.std.specs.Prelude.{◌≡◌, ◌-◌, ◌%◌, ◌≤◌, ℕ, List, [], ◌∷◌};
-ghost use Rattle.stream_report.specs.Sequence.{CountsOf, Few, Follows, Passes, StandsFor, greatest, place_of};
-ghost use Rattle.stream_report.specs.state.Orders.{Passed};
+ghost use Rattle.std.specs.Prelude.{◌≡◌, ◌%◌, ℕ, []};
+ghost use Rattle.stream_report.specs.Sequence.{CountsAhead, CountsNext, CountsOf};
+ghost use Rattle.stream_report.specs.state.Orders.{PassesBy};
 
 use crate::sequence::{Place, Window};
 use crate::tally::{At, Tally};
@@ -38,10 +38,7 @@ impl Order {
 
     /// Counts the next packet, and returns its place.
     pub fn note(&mut self, seq: u8, at: At) -> Place
-        ensures counts { (first : ℕ) → (later : List ℕ) → (number : ℕ) → CountsOf self.old first later → Follows first later number → number % 256 ≡ seq
-            → Few first (number ∷ later) → CountsOf self.new first (number ∷ later) }
-        ensures place { (first : ℕ) → (later : List ℕ) → (number : ℕ) → CountsOf self.old first later → Follows first later number → number % 256 ≡ seq
-            → result ≡ place_of first later number }
+        ensures { CountsNext self.old self.new seq result }
     {
         let place = self.window.place(seq);
         match place {
@@ -66,10 +63,7 @@ impl Order {
     /// Counts the next packet as one that is ahead of the newest by at most 256. Returns how many packets are missing
     /// between the newest packet and the next.
     pub fn resume(&mut self, seq: u8, at: At) -> u64
-        ensures counts { (first : ℕ) → (later : List ℕ) → (number : ℕ) → CountsOf self.old first later → Passes first later number → number % 256 ≡ seq
-            → Few first (number ∷ later) → CountsOf self.new first (number ∷ later) }
-        ensures missing { (first : ℕ) → (later : List ℕ) → (number : ℕ) → CountsOf self.old first later → Passes first later number → number % 256 ≡ seq
-            → result ≡ number - greatest first later - 1 }
+        ensures { CountsAhead self.old self.new seq result }
     {
         let missing = self.window.ahead(seq).saturating_sub(1);
         self.pass(seq, missing, at);
@@ -79,9 +73,7 @@ impl Order {
     /// Counts a packet that is ahead of the newest. `missing` is the number of packets that are missing before the
     /// packet.
     fn pass(&mut self, seq: u8, missing: u64, at: At)
-        ensures stands { (first : ℕ) → (later : List ℕ) → (number : ℕ) → StandsFor self.old.window first later → Passes first later number → number % 256 ≡ seq
-            → StandsFor self.new.window first (number ∷ later) }
-        ensures passed { Passed self.old self.new missing }
+        ensures { PassesBy self.old self.new seq missing }
     {
         self.window.pass(seq);
         self.lost.add(missing, at);

@@ -6,13 +6,13 @@ use crate::order::Order;
 use crate::pace::{Advance, Pace, Stamped};
 use crate::rate::Beat;
 use crate::sequence::Place;
-use crate::spread::Spread;
 use crate::tally::{At, Tally};
 use crate::trace::{Column, Range, Trace};
 use crate::trend::Trend;
 use avtp_base::{Field, NoMemory};
 use pcap_frames::Tag;
 use std::alloc::Global;
+use value_spread::Spread;
 
 /// What identifies a stream: the subtype and the stream ID of its packets.
 #[derive(Clone, Copy, PartialEq, Eq, Hash)]

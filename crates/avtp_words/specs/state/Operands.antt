@@ -1,16 +1,9 @@
 -- Only private functions and proofs use these definitions. The operands of a command: the words after
 -- its options.
-use Rattle.std.specs.Prelude.{◌≡◌, ℕ, List, [], ◌∷◌, Bool, true, false}
-use Rattle.avtp_words.specs.declared.operand.Operand.{Operand}
-use Rattle.avtp_words.specs.declared.operand.Operand.TheVariants.{Id, Name, Names, Packets}
-use Rattle.avtp_words.specs.Word.{IsId}
-
--- the operand takes all remaining words
-abbrev pub takes_all : Operand → Bool
-takes_all Id = false
-takes_all Name = false
-takes_all Names = true
-takes_all Packets = false
+use Rattle.std.specs.Prelude.{◌≡◌, ℕ, List, [], ◌∷◌}
+use Rattle.option_words.specs.declared.operand.Operand.{Operand}
+use Rattle.option_words.specs.declared.operand.Operand.TheVariants.{Id, Name}
+use Rattle.option_words.specs.Word.{IsId}
 
 -- the operands of a command about a stream and two captures
 abbrev pub stream_operands : List Operand

@@ -1,96 +1,26 @@
 -- Only private functions and proofs use these definitions. What the steps of reading the words return,
 -- for the options of any command.
-use Rattle.std.specs.Prelude.{◌≡◌, ◌≢◌, ℕ, ℤ, ◌+◌, ◌*◌, ◌^◌, ◌<◌, ◌≤◌, List, [], ◌∷◌, ◌++◌, map, flat_map, length, decimal, Bool, true, false, nat_le, nat_lt, ◌&&◌, Option, None, Some, option_to_list, if◌then◌else◌, IfSome, IfNone, ⊤, slice_get, get_or, take, All, IsSomeAnd, pos, codes, nat_eq, unsigned_abs}
-use Rattle.std.specs.List.{list_all}
-use Rattle.std.specs.Fmt.{signed_decimal}
-use Rattle.std.specs.Str.{bytes_eq}
+use Rattle.std.specs.Prelude.{◌≡◌, ◌≢◌, ℕ, ◌+◌, ◌*◌, ◌^◌, ◌<◌, ◌≤◌, List, map, Bool, false, nat_le, ◌&&◌, Option, None, Some, IfSome, ⊤, slice_get, IsSomeAnd, pos, codes, nat_eq}
 use Rattle.aaf_format.specs.declared.aaf.AafFormat.{AafFormat}
 use Rattle.avtp_words.specs.declared.listener.ListenerOptions.{ListenerOptions}
-use Rattle.avtp_words.specs.declared.option.Takes.{Takes}
-use Rattle.avtp_words.specs.declared.option.Takes.TheVariants.{Number, Signed, Id, Kind, Format, Name, Silence, OutFormat, Nothing}
 use Rattle.avtp_words.specs.declared.crf.Crf.{Crf}
 use Rattle.avtp_words.specs.declared.device.Silence.{Silence as RawSilence}
 use Rattle.avtp_words.specs.declared.device.Silence.TheVariants as silence
-use Rattle.avtp_words.specs.declared.option.OptionRow.{OptionRow}
+use Rattle.option_words.specs.declared.option.OptionRow.{OptionRow}
 use Rattle.avtp_words.specs.declared.talk.Kind.{Kind as StreamKind}
 use Rattle.avtp_words.specs.declared.talk.Kind.TheVariants.{Aaf, Am824, H264}
 use Rattle.iec61883_format.specs.Iec.{rate_of_fdf, syt_interval}
 use Rattle.std.specs.Option.{option_eq}
-use Rattle.avtp_words.specs.declared.operand.Operand.{Operand}
-use Rattle.avtp_words.specs.Operands.{AreOperands}
-use Rattle.avtp_words.specs.Word.{BeginsWithDash, IsName, IsId}
-use Rattle.avtp_words.specs.Options.{Row, Setting, words_of, AreSettings, IsTaken, IsValue, format_name, stands_alone}
 use Rattle.avtp_words.specs.Limits as limits
 use Rattle.avtp_words.specs.Limits.{NumberOption, default_rate, with_default}
 use Rattle.clock_track.specs.Pairs.{pull_down}
-use Rattle.avtp_words.specs.Grammar.{Begins, Stops, StopsAt, Listening, NamedFile, NamedRaw, Talking, spacing_of}
+use Rattle.option_words.specs.Lines.{StopsAt}
+use Rattle.avtp_words.specs.Grammar.{Listening, NamedFile, NamedRaw, Talking, spacing_of}
 use Rattle.aaf_format.specs.declared.aaf.AafFormat.TheVariants.{Int16}
-
--- a row of the code's table, with plain bytes instead of its borrowed name
-abbrev pub row_of : OptionRow → Row
-row_of row = record { name = row.name.now; takes = row.takes }
-
-abbrev pub rows_of : List OptionRow → List Row
-rows_of rows = map row_of rows
+use Rattle.option_words.specs.Values.{IsRead, IsReadFormat, IsReadId, IsReadIdIf, IsReadIf, IsReadSigned, value_after}
 
 abbrev pub names_of : List OptionRow → List (List ℕ)
 names_of rows = map (λ row. row.name.now) rows
-
--- If the option takes a number, the option's range is not empty, and all numbers in the range fit 64 bits.
-abbrev pub is_sound : Takes → Bool
-is_sound (Number low high) = nat_le low high && nat_lt high (2 ^ 64)
-is_sound (Signed most) = nat_lt most (2 ^ 63)
-is_sound Id = true
-is_sound Kind = true
-is_sound Format = true
-is_sound Name = true
-is_sound Silence = true
-is_sound OutFormat = true
-is_sound Nothing = true
-
--- the word begins with `--`, as the name of each option does; no value of an option begins with `--`
-abbrev pub begins_with_dashes : List ℕ → Bool
-begins_with_dashes [] = false
-begins_with_dashes (first ∷ []) = false
-begins_with_dashes (first ∷ second ∷ _) = nat_eq first 45 && nat_eq second 45
-
-abbrev pub are_sound : List Row → Bool
-are_sound rows = list_all (λ row. begins_with_dashes row.name && is_sound row.takes) rows
-
--- the word directly after the first `name` in the list, if any
-abbrev pub value_after : List ℕ → List (List ℕ) → Option (List ℕ)
-value_after name [] = None
-value_after name (word ∷ words) = if bytes_eq word name then slice_get words 0 else value_after name words
-
--- What is read from `word`: the number below `bound` that it spells, or `default` if there is no word.
-pub record IsRead (bound default : ℕ) (word : Option (List ℕ)) (n : ℕ) : Type 0 where
-  pub absent : IfNone word (n ≡ default)
-  pub read : IfSome word (λ word. (k : ℕ) → k < bound → word ≡ decimal k → n ≡ k)
-
--- What is read from `word`: the number below `bound` that it spells, or `None` if there is no word.
-pub record IsReadIf (bound : ℕ) (word : Option (List ℕ)) (given : Option ℕ) : Type 0 where
-  pub absent : IfNone word (given ≡ None)
-  pub read : IfSome word (λ word. (k : ℕ) → k < bound → word ≡ decimal k → given ≡ Some k)
-
--- What is read from `word`: the stream ID that it spells, or `default` if there is no word.
-pub record IsReadId (default : ℕ) (word : Option (List ℕ)) (n : ℕ) : Type 0 where
-  pub absent : IfNone word (n ≡ default)
-  pub read : IfSome word (λ word. (id : ℕ) → IsId word id → n ≡ id)
-
--- What is read from `word`: the stream ID that it spells, or `None` if there is no word.
-pub record IsReadIdIf (word : Option (List ℕ)) (given : Option ℕ) : Type 0 where
-  pub absent : IfNone word (given ≡ None)
-  pub read : IfSome word (λ word. (id : ℕ) → IsId word id → given ≡ Some id)
-
--- What is read from `word`: the number, possibly negative, that it spells, or `default` if there is no word.
-pub record IsReadSigned (default : ℤ) (word : Option (List ℕ)) (z : ℤ) : Type 0 where
-  pub absent : IfNone word (z ≡ default)
-  pub read : IfSome word (λ word. (k : ℤ) → unsigned_abs k < 2 ^ 63 → word ≡ signed_decimal k → z ≡ k)
-
--- What is read from `word`: the format that it names, or `default` if there is no word.
-pub record IsReadFormat (default : AafFormat) (word : Option (List ℕ)) (format : AafFormat) : Type 0 where
-  pub absent : IfNone word (format ≡ default)
-  pub read : IfSome word (λ word. (named : AafFormat) → word ≡ format_name named → format ≡ named)
 
 -- `n` is the number that is read for `option` from the words `options`; `option` has a default
 abbrev pub IsReadOf : ℕ → NumberOption → List (List ℕ) → ℕ → Type 0
@@ -183,8 +113,10 @@ pub record IsEvents (crf : Crf) (rate events : ℕ) : Type 0 where
   pub some : 1 ≤ events
   pub most : events < 2 ^ 44
 
--- `spacing` is the number of the stream's sample frames from one timestamp of the clock to the next.
+-- `spacing` is the number of the stream's sample frames from one timestamp of the clock to the next. A packet of the
+-- clock has at least one timestamp.
 pub record IsSpacing (crf : Crf) (rate spacing : ℕ) : Type 0 where
+  pub some_points : 1 ≤ crf.points
   pub value : spacing ≡ spacing_of crf rate
   pub some : 1 ≤ spacing
   pub most : spacing < 2 ^ 44
@@ -205,82 +137,12 @@ pub record AreRead (options : List (List ℕ)) (asked : Talking) : Type 0 where
   pub jump : IsReadOf (2 ^ 32) limits.jump options asked.jump
   pub crf : IsReadClock options asked.rate asked.crf
 
--- If the option takes a value, the word at index `place` is a value that the option takes, and `len` is 1. If the
--- option takes no value, `len` is 0.
-pub record IsTakenAt (takes : Takes) (words : List (List ℕ)) (place len : ℕ) : Type 0 where
-  pub value : Option (List ℕ)
-  pub taken : IsTaken takes value
-  pub here : IfSome value (λ word. slice_get words place ≡ Some word)
-  pub size : len ≡ length (option_to_list value)
-
--- The option takes a value, but the word at index `place` is missing or is not a value that the option takes.
-pub record LacksValue (takes : Takes) (words : List (List ℕ)) (place : ℕ) : Type 0 where
-  pub wanted : stands_alone takes ≡ false
-  pub none : IfSome (slice_get words place) (λ word. IsValue takes word → ⊥)
-
--- the words are options and nothing else
-pub record AreOptions (rows : List Row) (words : List (List ℕ)) : Type 0 where
-  pub settings : List Setting
-  pub spelled : words ≡ flat_map words_of settings
-  pub options : AreSettings rows settings
-
--- the words are options, followed by any number of names
-pub record IsTail (rows : List Row) (words : List (List ℕ)) : Type 0 where
-  pub settings : List Setting
-  pub names : List (List ℕ)
-  pub spelled : words ≡ flat_map words_of settings ++ names
-  pub options : AreSettings rows settings
-  pub named : All IsName names
-
--- the words after a command: options, then the operands
-pub record IsRest (rows : List Row) (operands : List Operand) (words : List (List ℕ)) : Type 0 where
-  pub settings : List Setting
-  pub names : List (List ℕ)
-  pub spelled : words ≡ flat_map words_of settings ++ names
-  pub options : AreSettings rows settings
-  pub named : AreOperands operands names
-
--- The words after a command: options, then the operands. The first operand is at index `place`.
-pub record IsRestTo (rows : List Row) (operands : List Operand) (words : List (List ℕ)) (place : ℕ) : Type 0 where
-  pub rest : IsRest rows operands words
-  pub here : place ≡ length (flat_map words_of rest.settings)
-
--- the words before index `place` are options
-pub record AreOptionsTo (rows : List Row) (words : List (List ℕ)) (place : ℕ) : Type 0 where
-  pub settings : List Setting
-  pub rest : List (List ℕ)
-  pub split : words ≡ flat_map words_of settings ++ rest
-  pub here : place ≡ length (flat_map words_of settings)
-  pub options : AreSettings rows settings
-
--- the words before index `place` are options, and no option begins at index `place`
-pub record EndsOptions (rows : List Row) (words : List (List ℕ)) (place : ℕ) : Type 0 where
-  pub options : AreOptionsTo rows words place
-  pub ends : IfSome (slice_get words place) (λ word. BeginsWithDash word → ⊥)
-
--- The first wrong word among the options is at index `place`. The words before the wrong word begin a list of options.
--- The words up to and including the wrong word do not begin a list of options followed by names. If there are only
--- `place` words, the words are not a list of options followed by names.
-pub record StopsOptions (rows : List Row) (words : List (List ℕ)) (place : ℕ) : Type 0 where
-  pub before : List (List ℕ)
-  pub rest : List (List ℕ)
-  pub split : words ≡ before ++ rest
-  pub here : place ≡ length before
-  pub begins : Begins (AreOptions rows) before
-  pub stops : Stops (IsTail rows) before rest
-
 -- `place` is the index of the first word of `words` that is wrong for a line of `L`. On the whole command line, the
 -- position of this word is `position`; the command has position 1.
 pub record StopsAfter (L : List (List ℕ) → Type 0) (words : List (List ℕ)) (position : ℕ) : Type 0 where
   pub place : ℕ
   pub here : position ≡ place + 2
   pub stops : StopsAt L words place
-
--- the word at index `place` is the first that is not a name
-pub record IsFirstUnnamed (words : List (List ℕ)) (place : ℕ) : Type 0 where
-  pub within : place < length words
-  pub named : All IsName (take place words)
-  pub here : IsName (get_or words place []) → ⊥
 
 -- there is an SYT interval, and `count` is at least an eighth of the interval
 abbrev pub is_long_enough : Option ℕ → ℕ → Bool

@@ -1,5 +1,5 @@
 use Rattle.std.proofs.Common.{inr}
-use Rattle.avtp_words.specs.Word.{texts}
+use Rattle.option_words.specs.Word.{texts}
 use Rattle.avtp_system.proofs.Told.{refuses_as, said_as}
 use Rattle.avtp_system.proofs.program.run_over.Goals as goal
 

@@ -1,6 +1,6 @@
 use Rattle.std.proofs.Common.{false, refl, sym, ap}
 use Rattle.avtp_words.specs.Grammar.{agree, agreeing_of, check, gateway, listen, listening_of, show, soak, talk, talking_of, turning_of}
-use Rattle.avtp_words.specs.Word.{texts}
+use Rattle.option_words.specs.Word.{texts}
 use Rattle.avtp_tool.specs.Show.{show_plan}
 use Rattle.avtp_tool.proofs.Asked.{not_offence, requested}
 use Rattle.avtp_tool.specs.Run.{is_listening}

@@ -1,6 +1,6 @@
 use Rattle.std.proofs.Common.{◌≡◌, false, Ok, take}
 use Rattle.avtp_text.specs.Written.{written}
-use Rattle.avtp_words.specs.Word.{texts}
+use Rattle.option_words.specs.Word.{texts}
 use Rattle.avtp_tool.specs.Yield.{HandsOn}
 use Rattle.avtp_tool.specs.state.Files.{is_hearing, plan_for}
 use Rattle.avtp_tool.specs.state.Outcome.{KeepsSink}

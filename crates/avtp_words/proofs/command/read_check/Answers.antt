@@ -1,8 +1,8 @@
 use Rattle.std.proofs.Common.{sym, refl}
 use Rattle.std.proofs.lemmas.Result.{err_from_is_err_and}
 use Rattle.avtp_words.specs.Grammar.{check_form}
-use Rattle.avtp_words.specs.Word.{texts}
-use Rattle.avtp_words.proofs.CommandLines.{words_after}
+use Rattle.option_words.specs.Word.{texts}
+use Rattle.option_words.proofs.Lines.{words_after}
 use Rattle.avtp_words.proofs.Commands.{offence_after, check_is}
 use Rattle.avtp_words.proofs.command.read_check.Goals as goal
 

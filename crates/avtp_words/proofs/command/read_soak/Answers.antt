@@ -1,7 +1,7 @@
 use Rattle.std.proofs.Common.{sym, refl}
 use Rattle.std.proofs.lemmas.Result.{err_from_is_err_and}
 use Rattle.avtp_words.specs.Grammar.{soak_form}
-use Rattle.avtp_words.specs.Word.{texts}
+use Rattle.option_words.specs.Word.{texts}
 use Rattle.avtp_words.proofs.Commands.{offence_after, soak_is, soak_number, soak_stands}
 use Rattle.avtp_words.proofs.command.read_soak.Goals as goal
 

@@ -1,11 +1,9 @@
 use Rattle.std.proofs.Common.{◌∷◌, ◌∙◌, codes, refl, sym}
-use Rattle.std.specs.Str.{bytes_eq}
-use Rattle.std.proofs.lemmas.Bool.{not-false}
 use Rattle.std.proofs.lemmas.Result.{err_from_is_err_and}
 use Rattle.avtp_words.specs.Grammar.{gateway_form, turning_of}
-use Rattle.avtp_words.specs.Word.{texts}
-use Rattle.avtp_words.proofs.Commands.{offence_after, offence_of_output, offence_without_to}
-use Rattle.avtp_words.proofs.Settings.{same-true}
+use Rattle.option_words.specs.Word.{texts}
+use Rattle.avtp_words.proofs.Commands.{are_operands, gateway_says, offence_after, offence_of_output, offence_without_to}
+use Rattle.option_words.proofs.Settings.{same-false, same-true}
 use Rattle.avtp_words.proofs.gateway.read_gateway.Goals as goal
 
 pub returns-in_err-place : goal.returns-in_err-place
@@ -19,10 +17,19 @@ returns-in_default c = record {
   err = offence_without_to c.args.words.now c.in_ok-place.place c.in_ok-place.ensures.ok c.in_default.ensures.none;
 }
 
-pub returns-else-ne : goal.returns-else-ne
-returns-else-ne c = record {
-  ok = tt;
-  err = let asked = turning_of c.read_words-asked.result in
-      let same = same-true asked.input asked.output (not-false (bytes_eq asked.input asked.output) (sym c.ne.ensures ∙ c.if-ne.false)) in
-      offence_of_output (codes "gateway" ∷ texts c.args.words.now) asked c.read_words-asked.ensures (λ keeps. keeps.apart same);
-}
+pub stream_and_two-stream-requires : goal.stream_and_two-stream-requires
+stream_and_two-stream-requires c = are_operands gateway_form c.args.words.now c.in_ok-place.place c.in_ok-place.ensures.ok
+
+pub returns-then-eq : goal.returns-then-eq
+returns-then-eq c =
+    let names = c.stream_and_two-stream.result in
+    let asked = turning_of (record { listener = c.listener_after-listener.result; to = c.in-Some.to; id = c.id_after-id.result; input = names.first; output = names.second }) in
+    let says = gateway_says c.args.words.now c.in_ok-place.place names.stream asked c.in_ok-place.ensures.ok c.stream_and_two-stream.ensures c.listener_after-listener.ensures.stream_is c.listener_after-listener.ensures.read c.in-Some.ensures.spelled c.id_after-id.ensures in
+    record { ok = tt; err = offence_of_output (codes "gateway" ∷ texts c.args.words.now) asked says (λ keeps. keeps.apart (same-true asked.input asked.output (sym c.eq.ensures ∙ c.if-eq.true))) }
+
+pub returns : goal.returns
+returns c =
+    let names = c.stream_and_two-stream.result in
+    let asked = turning_of (record { listener = c.listener_after-listener.result; to = c.in-Some.to; id = c.id_after-id.result; input = names.first; output = names.second }) in
+    let says = gateway_says c.args.words.now c.in_ok-place.place names.stream asked c.in_ok-place.ensures.ok c.stream_and_two-stream.ensures c.listener_after-listener.ensures.stream_is c.listener_after-listener.ensures.read c.in-Some.ensures.spelled c.id_after-id.ensures in
+    record { ok = (says, record { apart = same-false asked.input asked.output (sym c.eq.ensures ∙ c.if-eq.false) }); err = tt }

@@ -1,6 +1,6 @@
 use Rattle.std.proofs.Common.{◌∷◌, codes}
 use Rattle.avtp_words.specs.Grammar.{listening_of}
-use Rattle.avtp_words.specs.Word.{texts}
+use Rattle.option_words.specs.Word.{texts}
 use Rattle.avtp_words.proofs.Commands.{offence_of_names}
 use Rattle.avtp_words.proofs.listen.read_listen.Goals as goal
 

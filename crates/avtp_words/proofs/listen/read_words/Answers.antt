@@ -1,8 +1,8 @@
 use Rattle.std.proofs.Common.{◌≡◌, ◌+◌, drop, sym, refl}
 use Rattle.std.proofs.lemmas.Result.{err_from_is_err_and}
 use Rattle.avtp_words.specs.Grammar.{listen_form, listening_of}
-use Rattle.avtp_words.specs.Word.{texts, IsId}
-use Rattle.avtp_words.proofs.CommandLines.{words_after}
+use Rattle.option_words.specs.Word.{texts, IsId}
+use Rattle.option_words.proofs.Lines.{words_after}
 use Rattle.avtp_words.proofs.Commands.{offence_after, listen_stands, listen_id, listen_says}
 use Rattle.avtp_words.proofs.listen.read_words.Goals as goal
 

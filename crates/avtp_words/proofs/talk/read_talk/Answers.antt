@@ -1,6 +1,6 @@
 use Rattle.std.proofs.Common.{◌∷◌, codes}
 use Rattle.avtp_words.specs.Grammar.{talking_of}
-use Rattle.avtp_words.specs.Word.{texts}
+use Rattle.option_words.specs.Word.{texts}
 use Rattle.avtp_words.proofs.Commands.{offence_of_rule, talk_clock}
 use Rattle.avtp_words.proofs.talk.read_talk.Goals as goal
 

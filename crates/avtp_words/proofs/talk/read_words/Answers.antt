@@ -1,9 +1,9 @@
 use Rattle.std.proofs.Common.{codes, sym, refl, ap, ◌∙◌, Some, List, ℕ, ◌≡◌, ◌+◌, slice_get}
 use Rattle.std.proofs.lemmas.Result.{err_from_is_err_and}
 use Rattle.avtp_words.specs.Grammar.{talk_form, talking_of}
-use Rattle.avtp_words.specs.Word.{texts}
+use Rattle.option_words.specs.Word.{texts}
 use Rattle.avtp_words.proofs.Commands.{offence_after, first_stands, second_stands, talk_says}
-use Rattle.avtp_words.proofs.Steps.{contained}
+use Rattle.option_words.proofs.Steps.{contained}
 use Rattle.avtp_words.proofs.talk.read_words.Goals as goal
 
 pub returns-in_err-place : goal.returns-in_err-place

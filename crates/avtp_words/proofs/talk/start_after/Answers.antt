@@ -1,7 +1,7 @@
 use Rattle.std.proofs.Common.{codes, arith, ap, ◌∙◌, ℤ, pos, w64, to_z, of_z, to_z-of_z}
-use Rattle.avtp_words.specs.state.Reading.{value_after}
-use Rattle.avtp_words.specs.Word.{texts}
-use Rattle.avtp_words.proofs.Numbers.{signed_read}
+use Rattle.option_words.specs.Values.{value_after}
+use Rattle.option_words.specs.Word.{texts}
+use Rattle.option_words.proofs.Numbers.{signed_read}
 use Rattle.avtp_words.proofs.talk.start_after.Goals as goal
 
 pub returns : goal.returns

@@ -1,5 +1,0 @@
-use Rattle.avtp_words.proofs.Rules.{lack}
-use Rattle.avtp_words.proofs.option.lacks.Goals as goal
-
-pub returns : goal.returns
-returns c = lack c.args.words.now c.args.options.now c.has_one.result c.has_one.ensures

@@ -1,0 +1,4 @@
+mod Buckets
+mod Widening
+mod Counting
+mod Spreads
