@@ -411,7 +411,7 @@ pushed_next a events f here room s =
     let w = waits_here a (last_stretch events) f s.waits here in
     next_from a events f w.first w.rest w.is w.keeps w.goes (sym (room_is a w.first w.rest f w.keeps) ∙ room)
 
--- a packet was pushed, if this is so whatever events came before
+-- if a call does, after any events, what `IsPushed` says, the call pushes the packet
 pub pushes : (old new after : Assembly) (f : Fragment) (result answer : Pushed) → Leaves new after result answer → answer.lost ≡ length after.lost
     → ((events : List Event) → StandsFor old events → IsPushed after (events ++ packet f ∷ []) answer) → Pushes old new f result
 pushes old new after f result answer l marks is =

@@ -39,7 +39,8 @@ pub record FewWait (m : MatchingState) : Type 0 where
   pub a : length m.waiting_a ≤ 512
   pub b : length m.waiting_b ≤ 512
 
--- for the batches of each side, the counts tell how many batches there are: as many as are matched or in no pair
+-- Each side has as many batches as the counts say: the matched batches, and the batches of this side that are in no
+-- pair.
 pub record AddUp (xs ys : List Presented) (counts : PairCounts) : Type 0 where
   pub a : counts.matched + counts.only_a ≡ length xs
   pub b : counts.matched + counts.only_b ≡ length ys

@@ -38,12 +38,13 @@ pub record AreSearched (packets : List ClockRow) (known : ℤ → Type 0) (shift
   pub rows : All IsNotable packets
   pub bounded : known shift
 
--- the last joined pair of the packets that covers the instant of a query
+-- `last` is the last joined pair that covers the instant of a query, if any
 pub record IsLatestOf (packets : List ClockRow) (query : Query) (last : Option Pair) : Type 0 where
   pub value : last ≡ latest query.shift query.instant query.rate (used packets)
   pub covering : IfSome last (IsCovering query.rate query.instant)
 
--- `some` are the last packets of `all`, and 64 of them give points, or all that do if fewer do
+-- `some` are the last packets of `all`. Among them are the last 64 packets that give points, or all such packets if there
+-- are fewer.
 pub record AreRecent (all some : List ClockRow) : Type 0 where
   pub window : used some ≡ window all
   pub notable : All IsNotable some

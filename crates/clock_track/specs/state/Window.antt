@@ -44,7 +44,7 @@ pub record HoldsRooms (rows : List Kept) (spare : Vec Room) (count : ℕ) : Type
   pub kept : All HasRoom rows
   pub unused : All IsRoom spare.items
 
--- One room is taken, and the last 63 packets are kept.
+-- A room for one packet was taken, and at most 63 packets, the last ones, were kept.
 pub record TakesRoom (old new : Buffer Kept) (spare : Vec Room) (room : Room) : Type 0 where
   pub taken : IsRoom room
   pub rows : new ≡ buffer (keep_last 63 old.items) old.capacity

@@ -18,7 +18,8 @@ pub record IsCipOf (pdu : List ℕ) (cip : Cip) : Type 0 where
   pub some : 0 < cip.dbs
   pub few : cip.dbs ≤ 256
 
--- The tag or the stated length is refused. If neither is, the packet has the stated bytes, and a CIP header among them.
+-- `refusal` is the first refusal of the tag and the stated length, if any. If there is none, the packet has the stated
+-- bytes, and these begin with a CIP header.
 pub record IsCarrierRefusal (pdu : List ℕ) (stated : ℕ) (refusal : Option Refusal) : Type 0 where
   pub exact : refusal ≡ first_row (carrier_rows pdu)
   pub header : IfNone refusal (8 ≤ stated)

@@ -3,7 +3,7 @@ use Rattle.time_unfold.specs.declared.stamp.Stamp.{Stamp}
 use Rattle.time_unfold.specs.declared.stamp.Want.{Want}
 use Rattle.time_unfold.specs.Limits.{IsStamp, IsWant}
 
--- a stamp is tried for a packet without a timestamp, and the numbers of both are within their limits
+-- A stamp is tried for a packet without a timestamp. The numbers of the stamp and of the packet are within their limits.
 pub record IsTried (tried : Stamp) (wanted : Want) : Type 0 where
   pub stamp : IsStamp tried
   pub want : IsWant wanted
