@@ -10,8 +10,8 @@ abbrev pub NonePasses : (ℕ → Bool) → ℕ → ℕ → Type 0
 NonePasses test low high = (k : ℕ) → low ≤ k → k < high → test k ≡ false
 
 -- a function of a list passes over indexes that fail the test, if it passes over one
-passed : {R : Type 0} (F : List ℕ → R) (test : ℕ → Bool) → ((x : ℕ) (xs : List ℕ) → test x ≡ false → F (x ∷ xs) ≡ F xs) → (m n a b : ℕ) → a + m ≡ b → NonePasses test a b
-    → F (range_with_len a (m + n)) ≡ F (range_with_len b n)
+passed : {R : Type 0} (F : List ℕ → R) (test : ℕ → Bool) → ((x : ℕ) (xs : List ℕ) → test x ≡ false → F (x ∷ xs) ≡ F xs)
+    → (m n a b : ℕ) → a + m ≡ b → NonePasses test a b → F (range_with_len a (m + n)) ≡ F (range_with_len b n)
 passed F test over zero n a b e none =
     let count : 0 + n ≡ n = omega arith in
     let place : a ≡ b = omega arith in
