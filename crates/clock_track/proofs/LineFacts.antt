@@ -184,7 +184,8 @@ some_rate p rate instant c = elim (cases_lt rate 1) [
   | inr some ↦ some
 ]
 
-pub own_spot : (p : Pair) (rate : ℕ) (instant base : ℤ) (num den : ℕ) (from : ℤ) → p.up ≡ rate * p.down → base ≡ p.later → num ≡ period p → den ≡ p.interval → from ≡ nearest_event p instant
+pub own_spot : (p : Pair) (rate : ℕ) (instant base : ℤ) (num den : ℕ) (from : ℤ) → p.up ≡ rate * p.down
+    → base ≡ p.later → num ≡ period p → den ≡ p.interval → from ≡ nearest_event p instant
     → ◌≡◌ {A = Option Spot} (Some (record { line = record { base = base; num = num; den = den }; from = from })) (Some (spot_by p rate instant))
 own_spot p rate instant base num den from own a b d e = by (p.up == rate * p.down) refl
   where

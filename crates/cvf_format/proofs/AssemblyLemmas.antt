@@ -14,7 +14,7 @@ use Rattle.cvf_format.specs.declared.piece.Lost.TheVariants.{Broken, Long}
 use Rattle.cvf_format.specs.declared.piece.Pushed.{Pushed}
 use Rattle.cvf_format.specs.declared.piece.Piece.TheVariants as variant
 use Rattle.cvf_format.specs.Stretches.{Fragment, Event, packet, cut, begins, goes_on, completes, stamps, last_stretch, unit_of, longest_unit, most_fragments, is_within, is_complete, before_last, waiting, piece_of, is_joined, given_up, reason_of, whole_of, whole_unit, mark_of, sequence_numbers}
-use Rattle.cvf_format.specs.Assembly.{Assembly, Cuts, Keeps, KeepsAll, Pushes, StandsFor, first_stamp, last_of, shown_unit, longest_body}
+use Rattle.cvf_format.specs.Assembly.{Assembly, Keeps, KeepsAll, Pushes, StandsFor, first_stamp, last_of, shown_unit, longest_body}
 use Rattle.cvf_format.specs.state.Assembly.{IsPushed, Leaves, agree, goes_on_here, has_room, gave_up, with_first, with_next, settled, lost_for}
 use Rattle.cvf_format.proofs.StretchLemmas.{and_left, and_right, continues, step, last_packet, last_cut, before_more, complete_more, complete_one, complete_last, unit_more, last_more, stamps_more}
 
@@ -104,7 +104,8 @@ none_lost : IsLost Broken []
 none_lost = record { waits = waits_none; apart = joined_none; unit = whole_none; reason = refl; piece = refl }
 
 -- the reason is `Long` if the stretch exceeds the limits only because of its last packet, and otherwise `Broken`
-lost_so : (b : Bool) (g : Fragment) (gs : List Fragment) (f : Fragment) → is_within (g ∷ gs) ≡ b → is_within (g ∷ (gs ++ f ∷ [])) ≡ false → IsLost (if b then Long else Broken) (g ∷ (gs ++ f ∷ []))
+lost_so : (b : Bool) (g : Fragment) (gs : List Fragment) (f : Fragment) → is_within (g ∷ gs) ≡ b → is_within (g ∷ (gs ++ f ∷ [])) ≡ false
+    → IsLost (if b then Long else Broken) (g ∷ (gs ++ f ∷ []))
 lost_so b g gs f e long =
     let front : before_last (g ∷ (gs ++ f ∷ [])) ≡ g ∷ gs = before_more (g ∷ gs) f in
     record {
@@ -349,7 +350,8 @@ nothing_here a (g ∷ gs) f k e here = by (is_within (g ∷ gs)) (is_complete (g
 
 -- ---- the events
 
-stands_after : (a : Assembly) (events : List Event) (event : Event) (after : List Fragment) → last_stretch (events ++ event ∷ []) ≡ after → Left a (last_stretch events) after → StandsFor a (events ++ event ∷ [])
+stands_after : (a : Assembly) (events : List Event) (event : Event) (after : List Fragment) → last_stretch (events ++ event ∷ []) ≡ after
+    → Left a (last_stretch events) after → StandsFor a (events ++ event ∷ [])
 stands_after a events event after here l = record {
   waits = subst (λ (r : List Fragment). KeepsAll a (waiting r)) (sym here) l.waits;
   lost = rw (here, before_more events event) (l.lost);

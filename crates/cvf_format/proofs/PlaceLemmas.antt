@@ -11,8 +11,8 @@ NonePasses test low high = (k : ℕ) → low ≤ k → k < high → test k ≡ f
 
 -- If a function of a list ignores a first index that fails the test, the function ignores all first indexes that fail
 -- the test.
-passed : {R : Type 0} (F : List ℕ → R) (test : ℕ → Bool) → ((x : ℕ) (xs : List ℕ) → test x ≡ false → F (x ∷ xs) ≡ F xs) → (m n a b : ℕ) → a + m ≡ b → NonePasses test a b
-    → F (range_with_len a (m + n)) ≡ F (range_with_len b n)
+passed : {R : Type 0} (F : List ℕ → R) (test : ℕ → Bool) → ((x : ℕ) (xs : List ℕ) → test x ≡ false → F (x ∷ xs) ≡ F xs)
+    → (m n a b : ℕ) → a + m ≡ b → NonePasses test a b → F (range_with_len a (m + n)) ≡ F (range_with_len b n)
 passed F test over zero n a b e none =
     let count : 0 + n ≡ n = omega arith in
     let place : a ≡ b = omega arith in

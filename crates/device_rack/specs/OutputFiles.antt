@@ -1,5 +1,5 @@
 -- The two devices of a program, and what giving items to them does.
-use Rattle.std.specs.Prelude.{◌≡◌, ℕ, ⊤, ◌+◌, true, List, [], Option, None, Some}
+use Rattle.std.specs.Prelude.{◌≡◌, ℕ, ⊤, ◌+◌, true, List, Option, None, Some}
 use Rattle.avtp_base.specs.States.{SinkState}
 use Rattle.sample_schedule.specs.declared.shown.Shown.{Shown}
 use Rattle.device_rack.specs.Outlets.{AreHandedTo, Both, failed_in}

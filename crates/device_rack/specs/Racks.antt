@@ -39,6 +39,7 @@ module _ {Kind : Type 0} {Value : Kind → Type 0} where
   failed_count places = count_by (λ place. not place.live) places
 
   -- each live place is given an item, and this number of places fails
-  pub record HandsEach (took : DynBox Kind Global Value → List Shown → Type 0) (faults : DynBox Kind Global Value → ℕ) (failing : DynBox Kind Global Value → Option (List ℕ)) (shown : Shown) (before after : List (Place Kind Value)) (count : ℕ) : Type 0 where
+  pub record HandsEach (took : DynBox Kind Global Value → List Shown → Type 0) (faults : DynBox Kind Global Value → ℕ)
+      (failing : DynBox Kind Global Value → Option (List ℕ)) (shown : Shown) (before after : List (Place Kind Value)) (count : ℕ) : Type 0 where
     pub places : AllZip (IsHanded took faults failing shown) before after
     pub failures : failed_count after ≡ failed_count before + count

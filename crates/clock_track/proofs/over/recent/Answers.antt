@@ -14,5 +14,6 @@ returns c =
         | then-loop-start-test+else-found-lt-WINDOW w ↦ inr (omega arith)
         | else-loop-start-test w ↦ inl (omega arith)
       ]);
-      notable = All-take IsNotable (length c.args.rows.now - c.loop-start.start) (drop c.loop-start.start c.args.rows.now) (All-drop IsNotable c.loop-start.start c.args.rows.now c.requires);
+      notable = All-take IsNotable (length c.args.rows.now - c.loop-start.start) (drop c.loop-start.start c.args.rows.now)
+          (All-drop IsNotable c.loop-start.start c.args.rows.now c.requires);
     }

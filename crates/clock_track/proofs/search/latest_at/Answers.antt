@@ -16,14 +16,16 @@ pub returns-then-excludes : goal.returns-then-excludes
 returns-then-excludes g c row there =
     let instant : to_z w64 (of_z w64 c.args.query.now.instant) ≡ c.args.query.now.instant = omega (arith, ints) in
     let outside : IsOutside c.in-Some.bounds c.args.query.now.instant c.args.query.now.lead = rw instant at (c.excludes.ensures c.if-excludes.true) in
-    none-if row.usable _ (pairs-none c.args.query.now.shift row c.in-Some.bounds c.args.query.now.rate c.args.query.now.lead c.args.query.now.instant (used (g.R.Rows.rows c.args.rows.now)) c.args.query.now.leads
+    none-if row.usable _ (pairs-none c.args.query.now.shift row c.in-Some.bounds c.args.query.now.rate c.args.query.now.lead c.args.query.now.instant
+    (used (g.R.Rows.rows c.args.rows.now)) c.args.query.now.leads
     (c.in-Some.ensures c.args.query.now.shift row c.requires.searched.bounded there) outside)
 
 pub invariant_of-row : goal.invariant_of-row
 invariant_of-row g c =
     let shift : to_z w64 (of_z w64 c.args.query.now.shift) ≡ c.args.query.now.shift = omega (arith, ints) in
     record {
-      within = row-is (g.R.Rows.rows c.args.rows.now) c.args.place (row_of c.row-points.result) c.requires.searched.rows c.row-points.ensures c.if-not-points.false;
+      within = row-is (g.R.Rows.rows c.args.rows.now) c.args.place (row_of c.row-points.result) c.requires.searched.rows
+          c.row-points.ensures c.if-not-points.false;
       short = subst IsShift (sym shift) c.args.query.now.short;
     }
 

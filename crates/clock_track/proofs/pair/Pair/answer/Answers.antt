@@ -26,7 +26,8 @@ event c =
     let same : to_z w128 (of_z w128 c.scaled-behind.result) ≡ c.scaled-behind.result = omega (arith, ints) in
     let behind : c.scaled-behind.result ≡ numerator = rw (instant, later, c.from-den.ensures, c.period-period.ensures) at c.scaled-behind.ensures in
     let twice : to_z w128 (of_z w128 c.from-then-self-from.result) ≡ pos (2 * period c.args.self.now) = omega (arith, ints) in
-    c.div_euclid.ensures ∙ ap (λ (z : ℤ). int_div_euclid z (to_z w128 (of_z w128 c.from-then-self-from.result))) (same ∙ behind) ∙ ap (λ (z : ℤ). int_div_euclid numerator z) twice
+    c.div_euclid.ensures ∙ ap (λ (z : ℤ). int_div_euclid z (to_z w128 (of_z w128 c.from-then-self-from.result))) (same ∙ behind)
+    ∙ ap (λ (z : ℤ). int_div_euclid numerator z) twice
 
 is : (c : goal.After-div_euclid) → IsEvent c.args.self.now c.args.instant
 is c = is_event c.args.self.now c.args.rate c.args.instant (some_rate c.args.self.now c.args.rate c.args.instant c.requires.covers) c.requires (own c)
