@@ -7,7 +7,6 @@ use Rattle.avtp_base.specs.declared.field.Field.TheVariants.{Magic}
 use Rattle.pcap_frames.specs.declared.style.Order.TheVariants.{Little}
 use Rattle.pcap_frames.specs.Layout.{certain, file_refusal}
 use Rattle.pcap_frames.specs.Capture as classic
-use Rattle.pcap_frames.specs.Capture.{Record}
 use Rattle.pcap_frames.proofs.Append.{number_stays}
 use Rattle.pcap_frames.proofs.Fields.{certain_is}
 use Rattle.pcapng_blocks.specs.Blocks as ng

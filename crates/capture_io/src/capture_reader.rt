@@ -75,21 +75,16 @@ impl CaptureReader {
 
     /// Takes bytes from the front of the piece, at most up to the end of one record, and returns how many it took. As
     /// soon as the bytes so far show the capture's first refusal, the call returns that refusal instead.
+    ///
+    /// The first bytes are held back until there are four; these four bytes are then fed to the reader of their layout.
     pub fn feed(&mut self, piece: &[u8]) -> Result<usize, Refusal>
         requires { taken self.old + length piece.now ≤ 2 ^ 62 }
         ensures { Feeds self.old piece.now result self.new }
     {
         match self.format {
-            None => self.feed_front(piece),
-            Some(format) => feed_format(format, &mut self.classic, &mut self.ng, piece),
+            Some(format) => return feed_format(format, &mut self.classic, &mut self.ng, piece),
+            None => {}
         }
-    }
-
-    /// Holds the first bytes back until there are four, and then feeds these four bytes to the reader of their layout.
-    fn feed_front(&mut self, piece: &[u8]) -> Result<usize, Refusal>
-        requires front { self.old.format ≡ None }
-        ensures { Feeds self.old piece.now result self.new }
-    {
         let taken = piece.len().min(FRONT - self.front.len());
         let Ok(()) = self.front.extend_from_slice(&piece[..taken]) else {
             unreachable!()

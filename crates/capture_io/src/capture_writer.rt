@@ -62,7 +62,7 @@ impl CaptureWriter {
         ensures { BeginsCapture (F.state shelf.old) (F.state shelf.new) name.now result }
     {
         let mut file = FileWriter::create(buffer, shelf, name)?;
-        file.push(&file_header());
+        file.buffer.push(&file_header());
         Ok(CaptureWriter { file })
     }
 
@@ -82,8 +82,9 @@ impl CaptureWriter {
         let size = frame.size();
         self.file.make_room(shelf, RECORD_HEADER + size)?;
         self.file
+            .buffer
             .push(&record_header(STYLE, arrival, size as u32, size as u32));
-        self.file.put(frame);
+        self.file.buffer.add(frame);
         Ok(())
     }
 

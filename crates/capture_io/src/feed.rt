@@ -2,7 +2,7 @@
 
 ghost use Rattle.std.specs.Prelude.{◌≤◌, length, IsSome};
 ghost use Rattle.capture_io.specs.Source.{GivesNext, slot_of};
-ghost use Rattle.capture_io.specs.state.Source.{FindsAhead, GivesUp, IsReady, LiesAhead, ReadsOn, ReadsRecord, holding};
+ghost use Rattle.capture_io.specs.state.Source.{FindsAhead, IsReady, ReadsOn, ReadsRecord};
 
 use crate::capture_reader::CaptureReader;
 use crate::end::End;
@@ -104,15 +104,5 @@ impl Feed {
         requires { taken ≤ length self.now.pieces.waiting }
     {
         self.ended.is_none() && !self.reader.is_ahead(&self.pieces.waiting()[taken..])
-    }
-
-    /// Skips the next record, which is the first `size` buffered bytes.
-    #[inline(always)]
-    pub fn pass(&mut self, size: usize)
-        requires { LiesAhead self.old size }
-        ensures { GivesUp (holding self.old size) self.new }
-    {
-        self.reader.pass(&self.pieces.waiting()[..size]);
-        self.pieces.take(size);
     }
 }

@@ -1,6 +1,6 @@
 //! Writes a file through a buffer.
 
-ghost use Rattle.std.specs.Prelude.{◌≡◌, ◌+◌, ◌≤◌, ◌++◌, [], Ok, length};
+ghost use Rattle.std.specs.Prelude.{◌≡◌, [], Ok, length};
 ghost use Rattle.avtp_files.specs.ShelfCalls.{IsMadeIn};
 ghost use Rattle.capture_io.specs.Writing.{AddsBytes, CanHold, ClosesFile, CreatesFile, FinishesFile};
 ghost use Rattle.capture_io.specs.state.Writing.{MakesRoom, WritesOut};
@@ -16,7 +16,7 @@ use std::marker::Model;
 #[derive(Drop)]
 pub struct FileWriter {
     slot: Slot,
-    buffer: Buffer,
+    pub(crate) buffer: Buffer,
 }
 
 impl Model for FileWriter {
@@ -49,7 +49,7 @@ impl FileWriter {
         ensures { AddsBytes (F.state shelf.old) (F.state shelf.new) self.old self.new (W.spelling added.now) result }
     {
         self.make_room(shelf, added.size())?;
-        self.put(added);
+        self.buffer.add(added);
         Ok(())
     }
 
@@ -63,24 +63,6 @@ impl FileWriter {
             self.flush(shelf)?;
         }
         Ok(())
-    }
-
-    /// Adds the encoding of a value. There must be room for the encoding.
-    #[inline(always)]
-    pub(crate) fn put<W: Spelled>(&mut self, added: &W)
-        requires { length self.old.waiting + length (W.spelling added.now) ≤ 65536 }
-        ensures { self.new ≡ record self.old { waiting = self.old.waiting ++ W.spelling added.now } }
-    {
-        self.buffer.add(added);
-    }
-
-    /// Adds bytes. There must be room for these bytes.
-    #[inline(always)]
-    pub(crate) fn push(&mut self, bytes: &[u8])
-        requires { length self.old.waiting + length bytes.now ≤ 65536 }
-        ensures { self.new ≡ record self.old { waiting = self.old.waiting ++ bytes.now } }
-    {
-        self.buffer.push(bytes);
     }
 
     /// Writes all buffered bytes.

@@ -135,7 +135,10 @@ fn give_up(feed: &mut Feed, lent: Option<usize>)
     ensures { GivesUp (lending lent feed.old) feed.new }
 {
     match lent {
-        Some(size) => feed.pass(size),
+        Some(size) => {
+            feed.reader.pass(&feed.pieces.waiting()[..size]);
+            feed.pieces.take(size);
+        }
         None => feed.reader.release(),
     }
 }

@@ -21,4 +21,6 @@ returns g c =
     let spelled = rw at at (c.record_header.ensures frame (sym size)) in
     let whole = spelled ∙ ap (λ (k : ℕ). record_spelling written_style (record { arrival = c.args.arrival; orig_len = k; bytes = frame })) size in
     rw (← c.self.view_is)
-    (adds_record _ _ _ _ _ _ c.record_header.result frame (whole_record c.args.arrival frame) c.in_ok-make_room.ensures.kept c.in_ok-make_room.ensures.writes whole (c.put.ensures ∙ ap (λ (w : Writing). record w { waiting = w.waiting ++ frame }) c.push.ensures))
+    (adds_record _ _ _ _ _ _ c.record_header.result frame (whole_record c.args.arrival frame) c.in_ok-make_room.ensures.kept c.in_ok-make_room.ensures.writes whole
+    (ap (λ (l : List ℕ). record { slot = c.self-inside.inside.0.0.slot.0; waiting = l }) (c.add.ensures ∙ ap (λ (l : List ℕ). l ++ frame) c.push.ensures)
+    ∙ ap (λ (w : Writing). record w { waiting = (w.waiting ++ c.record_header.result) ++ frame }) (ap (λ x. x.file) c.self-inside.view_is)))
