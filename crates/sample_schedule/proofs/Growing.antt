@@ -1,7 +1,7 @@
 -- The due items of the first entries of a list are still due when the list continues.
 use Rattle.std.proofs.Common.{◌≡◌, ℕ, zero, suc, ◌+◌, ◌-◌, ◌<◌, ◌≤◌, List, [], ◌∷◌, ◌++◌, length, take, map, Option, Some, None, refl, sym, ap, ◌∙◌, append_assoc, arith}
 use Rattle.std.specs.Prelude.{slice_get, option_and_then}
-use Rattle.std.proofs.lemmas.List.{length-append}
+use Rattle.std.proofs.lemmas.List.{append-nil, length-append, take-append-le}
 use mathlib.Core.List.{IsPrefix}
 use Rattle.sample_schedule.specs.declared.accepted.Accepted.{Accepted}
 use Rattle.sample_schedule.specs.declared.entry.Entry.{Entry}
@@ -14,9 +14,7 @@ use Rattle.sample_schedule.proofs.StageLemmas.{map-after}
 -- ---- lists
 
 pub take-first : (n : ℕ) (xs ys : List Entry) → n ≤ length xs → take n (xs ++ ys) ≡ take n xs
-take-first zero xs ys le = refl
-take-first (suc n) [] ys le = absurd (omega arith)
-take-first (suc n) (x ∷ xs) ys le = ap (λ (l : List Entry). x ∷ l) (take-first n xs ys (omega arith))
+take-first = take-append-le
 
 pub get-first : (n : ℕ) (xs ys : List Entry) → n < length xs → slice_get (xs ++ ys) n ≡ slice_get xs n
 get-first n [] ys lt = absurd (omega arith)
@@ -72,11 +70,7 @@ steps-stay clock plan es more (suc n) le =
 
 steps-first : (clock : Clock) (plan : SchedulePlan) (es : List Entry) (n k : ℕ) → IsPrefix (steps clock plan es n) (steps clock plan es (n + k))
 unfolding steps
-steps-first clock plan es n zero = let e : n + 0 ≡ n = omega arith in rw e ([], append_nil-of (steps clock plan es n))
-  where
-    append_nil-of : (xs : List Given) → xs ++ [] ≡ xs
-    append_nil-of [] = refl
-    append_nil-of (x ∷ xs) = ap (λ (l : List Given). x ∷ l) (append_nil-of xs)
+steps-first clock plan es n zero = let e : n + 0 ≡ n = omega arith in rw e ([], append-nil (steps clock plan es n))
 steps-first clock plan es n (suc k) =
     let e : n + suc k ≡ suc (n + k) = omega arith in
     let before = steps-first clock plan es n k in

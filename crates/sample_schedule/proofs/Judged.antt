@@ -2,6 +2,7 @@
 use Rattle.std.proofs.Common.{◌≡◌, ◌⊎◌, inl, inr, ℕ, zero, suc, ◌+◌, ◌-◌, ◌<◌, ◌≤◌, Bool, true, false, cond, List, [], ◌∷◌, ◌++◌, length, take, ℤ, Option, Some, None, Result, Ok, Err, refl, sym, ap, ◌∙◌, subst, eq-eqb, arith}
 use Rattle.std.specs.Prelude.{◌==◌, if◌then◌else◌, int_lt, filter, fold, map, option_map, slice_get, IfOk}
 use Rattle.std.proofs.lemmas.List.Sums.{length-filter}
+use Rattle.std.proofs.lemmas.Option.{slice_get_within}
 use Rattle.sample_schedule.specs.declared.accepted.Accepted.{Accepted}
 use Rattle.sample_schedule.specs.declared.entry.Entry.{Entry}
 use Rattle.sample_schedule.specs.declared.entry.Entry.TheVariants.{Item as OfItem, Clock as OfClock}
@@ -94,11 +95,6 @@ in_order : (xs : List Accepted) (x : Accepted) → In xs x → In (by_instant xs
 unfolding by_instant
 in_order xs x h = in_sorted xs [] x (inr h)
 
-place_within : {X : Type 0} (xs : List X) (n : ℕ) (x : X) → slice_get xs n ≡ Some x → n < length xs
-place_within {X} [] n x e = absurd cc
-place_within {X} (y ∷ xs) zero x e = omega arith
-place_within {X} (y ∷ xs) (suc n) x e = let h = place_within xs n x e in omega arith
-
 -- ---- accepted items are presented
 
 accepted_stays : (clock : Clock) (plan : SchedulePlan) (es : List Entry) (n k : ℕ) (a : Accepted) → In (accepted clock plan es n) a → In (accepted clock plan es (n + k)) a
@@ -146,7 +142,7 @@ flag_in : (clock : Clock) (plan : SchedulePlan) (es : List Entry) (n : ℕ) (ite
     → In (given clock plan es) (Flags n item reason)
 unfolding given
 flag_in clock plan es n item reason at e =
-    let within = place_within es n (OfItem item) at in
+    let within = slice_get_within es n (OfItem item) at in
     let last : suc n + (length es - suc n) ≡ length es = omega arith in
     in_left (steps clock plan es (length es)) (rest_of clock plan es) (Flags n item reason)
     (subst (λ (m : ℕ). In (steps clock plan es m) (Flags n item reason)) last
@@ -156,7 +152,7 @@ flag_in clock plan es n item reason at e =
 
 pub ok-presented : (clock : Clock) (plan : SchedulePlan) (es : List Entry) (i : ℕ) (item : Item) (a : Accepted) → slice_get es i ≡ Some (OfItem item) → verdict_in clock plan es i item ≡ Ok a → In (presented (given clock plan es)) a
 ok-presented clock plan es i item a at is =
-    accepted_presented clock plan es i a (place_within es i (OfItem item) at) (verdict-at clock plan es i (accepted clock plan es i) (OfItem item) at ∙ ap Some is)
+    accepted_presented clock plan es i a (slice_get_within es i (OfItem item) at) (verdict-at clock plan es i (accepted clock plan es i) (OfItem item) at ∙ ap Some is)
 
 given_in : (clock : Clock) (plan : SchedulePlan) (es : List Entry) (i : ℕ) (item : Item) (r : Result Accepted Reason) → slice_get es i ≡ Some (OfItem item) → verdict_in clock plan es i item ≡ r → In (given clock plan es) (given_by i item r)
 given_in clock plan es i item (Ok a) at is = presented_in (given clock plan es) a (ok-presented clock plan es i item a at is)

@@ -6,7 +6,7 @@ use Rattle.std.proofs.lemmas.Int.{ints, by_lt_z}
 use Rattle.avtp_base.proofs.RowLemmas.{unequal}
 use Rattle.std.proofs.lemmas.Bool.{cases_lt, le-ltb, lt-ltb, or_parts}
 use Rattle.std.proofs.lemmas.List.{length-append}
-use Rattle.std.proofs.lemmas.List.Sums.{fold-append, sum_by-append}
+use Rattle.std.proofs.lemmas.List.Sums.{fold-append, sum_by-append, sum_by-cons}
 use Rattle.std.proofs.lemmas.List.Elements.{filter-append}
 use Rattle.std.proofs.lemmas.Option.{slice_get_past}
 use Rattle.std.proofs.Math.Seq.{take-length}
@@ -358,20 +358,17 @@ flags_at i (Flags place item reason ∷ rest) = hit place i + flags_at i rest
 abbrev given_at : ℕ → List Given → ℕ
 given_at i gs = sum_by (λ g. hit (place_of g) i) gs
 
-sum-cons : {A : Type 0} (f : A → ℕ) (x : A) (xs : List A) → sum_by f (x ∷ xs) ≡ f x + sum_by f xs
-sum-cons f x xs = sum_by-append f (x ∷ []) xs ∙ ap (λ (n : ℕ). n + sum_by f xs) (omega arith)
-
 given-split : (i : ℕ) (gs : List Given) → given_at i gs ≡ accepted_at i (presented gs) + flags_at i gs
 unfolding accepted_at flags_at
 given-split i [] = refl
 given-split i (Presents a ∷ gs) =
     let h = given-split i gs in
-    let e = sum-cons (λ (g : Given). hit (place_of g) i) (Presents a) gs in
-    let f = sum-cons (λ (b : Accepted). hit b.place i) a (presented gs) in
+    let e = sum_by-cons (λ (g : Given). hit (place_of g) i) (Presents a) gs in
+    let f = sum_by-cons (λ (b : Accepted). hit b.place i) a (presented gs) in
     omega arith
 given-split i (Flags place item reason ∷ gs) =
     let h = given-split i gs in
-    let e = sum-cons (λ (g : Given). hit (place_of g) i) (Flags place item reason) gs in
+    let e = sum_by-cons (λ (g : Given). hit (place_of g) i) (Flags place item reason) gs in
     omega arith
 
 flags-after : (i : ℕ) (xs ys : List Given) → flags_at i (xs ++ ys) ≡ flags_at i xs + flags_at i ys

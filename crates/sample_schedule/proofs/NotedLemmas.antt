@@ -14,19 +14,12 @@ use Rattle.sample_schedule.specs.Heads.{stamp_of, stamps_of}
 use Rattle.sample_schedule.specs.Noted.{HasClock, HasNoted, HasNotedClock}
 use Rattle.sample_schedule.specs.Verdicts.{row_of}
 
-one-stamp : (o : Option Stamp) → cons_option o [] ≡ option_to_list o
-one-stamp None = refl
-one-stamp (Some s) = refl
-
-stamps-more : (entries : List Entry) (e : Entry) (o : Option Stamp) → stamp_of e ≡ o → stamps_of (entries ++ e ∷ []) ≡ stamps_of entries ++ option_to_list o
-stamps-more entries e o is = filter_map-append stamp_of entries (e ∷ []) ∙ ap (λ (l : List Stamp). stamps_of entries ++ l) (one-stamp (stamp_of e) ∙ ap option_to_list is)
-
-one-row : (o : Option ClockRow) → cons_option o [] ≡ option_to_list o
-one-row None = refl
-one-row (Some r) = refl
-
-rows-more : (entries : List Entry) (e : Entry) (o : Option ClockRow) → row_of e ≡ o → filter_map row_of (entries ++ e ∷ []) ≡ filter_map row_of entries ++ option_to_list o
-rows-more entries e o is = filter_map-append row_of entries (e ∷ []) ∙ ap (λ (l : List ClockRow). filter_map row_of entries ++ l) (one-row (row_of e) ∙ ap option_to_list is)
+one-more : {X : Type 0} (f : Entry → Option X) (entries : List Entry) (e : Entry) (o : Option X) → f e ≡ o → filter_map f (entries ++ e ∷ []) ≡ filter_map f entries ++ option_to_list o
+one-more {X} f entries e o is = filter_map-append f entries (e ∷ []) ∙ ap (λ (l : List X). filter_map f entries ++ l) (as-list (f e) ∙ ap option_to_list is)
+  where
+    as-list : (o : Option X) → cons_option o [] ≡ option_to_list o
+    as-list None = refl
+    as-list (Some x) = refl
 
 -- an item leaves the clock unchanged
 clock-stays : (plan : SchedulePlan) (entries : List Entry) (e : Entry) (clock : Option ClockState) → HasClock plan entries clock → row_of e ≡ None → HasClock plan (entries ++ e ∷ []) clock
@@ -34,13 +27,13 @@ clock-stays plan entries e None h is = h
 clock-stays plan entries e (Some clock) h is = record {
   asked = h.asked;
   shift = h.shift;
-  rows = subst (StandsForRows clock) (sym (rows-more entries e None is ∙ append-nil (filter_map row_of entries))) h.rows;
+  rows = subst (StandsForRows clock) (sym (one-more row_of entries e None is ∙ append-nil (filter_map row_of entries))) h.rows;
 }
 
 pub notes-stamp : (plan : SchedulePlan) (entries : List Entry) (e : Entry) (stamp : Stamp) (old new : Noted) → HasNoted plan entries old → row_of e ≡ None → stamp_of e ≡ Some stamp → ((stamps : List Stamp) → KeepsLast old.stamps stamps → KeepsLast new.stamps (stamps ++ stamp ∷ []))
     → new.stamps.room ≡ old.stamps.room → new.clock ≡ old.clock → HasNoted plan (entries ++ e ∷ []) new
 notes-stamp plan entries e stamp old new h item is notes room same = record {
-  stamps = subst (KeepsLast new.stamps) (sym (stamps-more entries e (Some stamp) is)) (notes (stamps_of entries) h.stamps);
+  stamps = subst (KeepsLast new.stamps) (sym (one-more stamp_of entries e (Some stamp) is)) (notes (stamps_of entries) h.stamps);
   room = room ∙ h.room;
   clock = subst (HasClock plan (entries ++ e ∷ [])) (sym same) (clock-stays plan entries e old.clock h.clock item);
 }
@@ -48,7 +41,7 @@ notes-stamp plan entries e stamp old new h item is notes room same = record {
 -- an entry without a usable stamp leaves the stamps unchanged
 pub notes-none : (plan : SchedulePlan) (entries : List Entry) (e : Entry) (old new : Noted) → HasNoted plan entries old → stamp_of e ≡ None → new.stamps ≡ old.stamps → HasClock plan (entries ++ e ∷ []) new.clock → HasNoted plan (entries ++ e ∷ []) new
 notes-none plan entries e old new h is same clock = record {
-  stamps = subst (λ (k : LastStamps). KeepsLast k (stamps_of (entries ++ e ∷ []))) (sym same) (subst (KeepsLast old.stamps) (sym (stamps-more entries e None is ∙ append-nil (stamps_of entries))) h.stamps);
+  stamps = subst (λ (k : LastStamps). KeepsLast k (stamps_of (entries ++ e ∷ []))) (sym same) (subst (KeepsLast old.stamps) (sym (one-more stamp_of entries e None is ∙ append-nil (stamps_of entries))) h.stamps);
   room = ap (λ (k : LastStamps). k.room) same ∙ h.room;
   clock = clock;
 }
@@ -67,5 +60,5 @@ pub notes-row : (plan : SchedulePlan) (entries : List Entry) (e : Entry) (row : 
 notes-row plan entries e row old new h is notes same = record {
   asked = h.asked;
   shift = same ∙ h.shift;
-  rows = subst (StandsForRows new) (sym (rows-more entries e (Some row) is)) (notes (filter_map row_of entries) h.rows);
+  rows = subst (StandsForRows new) (sym (one-more row_of entries e (Some row) is)) (notes (filter_map row_of entries) h.rows);
 }

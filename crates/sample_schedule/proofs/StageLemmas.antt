@@ -3,6 +3,7 @@ use Rattle.std.proofs.Common.{◌≡◌, ℕ, zero, suc, ◌+◌, ℤ, pos, ◌�
 use Rattle.std.specs.Prelude.{slice_get}
 use Rattle.std.specs.Int.{int_max}
 use Rattle.std.proofs.lemmas.Int.{ints, by_lt_z}
+use Rattle.std.proofs.lemmas.List.{map-append}
 use Rattle.std.proofs.lemmas.List.Sums.{fold-append}
 use Rattle.sample_schedule.specs.declared.accepted.Accepted.{Accepted}
 use Rattle.sample_schedule.specs.declared.entry.Entry.{Entry}
@@ -21,8 +22,7 @@ take-more (y ∷ xs) zero x e = let f : y ≡ x = cc in rw f refl
 take-more (y ∷ xs) (suc i) x e = ap (λ (l : List Entry). y ∷ l) (take-more xs i x e)
 
 pub map-after : {A B : Type 0} (f : A → B) (xs ys : List A) → map f (xs ++ ys) ≡ map f xs ++ map f ys
-map-after f [] ys = refl
-map-after f (x ∷ xs) ys = ap (λ l. f x ∷ l) (map-after f xs ys)
+map-after = map-append
 
 pub shown-presents : (xs : List Accepted) → map shown_of (map Presents xs) ≡ map present xs
 shown-presents [] = refl

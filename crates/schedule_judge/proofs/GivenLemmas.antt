@@ -1,5 +1,5 @@
 -- The list of all items that a judge has returned.
-use Rattle.std.proofs.Common.{◌≡◌, ℕ, zero, suc, ◌+◌, ◌-◌, ◌≤◌, true, false, List, [], ◌∷◌, ◌++◌, length, take, drop, Some, None, refl, sym, ap, ◌∙◌, subst, append_assoc, append-nil, arith}
+use Rattle.std.proofs.Common.{◌≡◌, ℕ, zero, suc, ◌+◌, ◌-◌, ◌≤◌, true, false, List, [], ◌∷◌, ◌++◌, length, take, drop, Some, None, refl, sym, ap, ◌∙◌, subst, arith}
 use Rattle.std.specs.Prelude.{slice_get}
 use Rattle.std.proofs.lemmas.List.{length-append}
 use Rattle.std.proofs.lemmas.Option.{slice_get_within}
@@ -125,7 +125,3 @@ between-more plan all left rest e list more old mid new b is same opened counts 
       stands = λ clock asks. subst (λ (k : ℕ). StandsFor clock (take k all) (length more) new) (sym n) (gives clock (take (taken old + 1) all) (next clock asks)).stands;
       shown = λ clock asks. all-given clock (take (taken old + 1) all) (next clock asks) ∙ out-open clock (take (taken old + 1) all) new opened' ∙ ap (λ (p : SchedulePlan). due clock p (take (taken old + 1) all)) plan' ∙ ap (λ (k : ℕ). due clock plan (take k all)) (sym n);
     }
-
-pub empty_list : (xs : List Entry) → length xs ≡ 0 → xs ≡ []
-empty_list [] e = refl
-empty_list (x ∷ xs) e = absurd (omega arith)

@@ -6,7 +6,7 @@ use Rattle.std.specs.List.{AllByRecursion}
 use Rattle.std.specs.Option.{option_to_list}
 use Rattle.std.proofs.lemmas.Int.{ints, by_lt_z}
 use Rattle.std.proofs.lemmas.Bool.{cases_lt}
-use Rattle.std.proofs.lemmas.List.{length-append, length-drop, length-map}
+use Rattle.std.proofs.lemmas.List.{drop-append-le, length-append, length-drop, length-map, map-append, take_all}
 use Rattle.std.proofs.Math.Seq.{take-length}
 use Rattle.sample_schedule.specs.declared.accepted.Accepted.{Accepted}
 use Rattle.sample_schedule.specs.declared.entry.Entry.{Entry}
@@ -60,21 +60,6 @@ get-past : (l : List Given) (n : ℕ) → n ≡ length l → slice_get (map show
 get-past [] n e = refl
 get-past (x ∷ l) zero e = absurd (omega arith)
 get-past (x ∷ l) (suc n) e = get-past l n (omega arith)
-
-pub take-whole : (n : ℕ) (xs : List Entry) → length xs ≤ n → take n xs ≡ xs
-take-whole zero [] le = refl
-take-whole zero (x ∷ xs) le = absurd (omega arith)
-take-whole (suc n) [] le = refl
-take-whole (suc n) (x ∷ xs) le = ap (λ (l : List Entry). x ∷ l) (take-whole n xs (omega arith))
-
-drop-more : (n : ℕ) (xs ys : List Entry) → n ≤ length xs → drop n (xs ++ ys) ≡ drop n xs ++ ys
-drop-more zero xs ys le = refl
-drop-more (suc n) [] ys le = absurd (omega arith)
-drop-more (suc n) (x ∷ xs) ys le = drop-more n xs ys (omega arith)
-
-map-more : (xs ys : List Entry) → map pending_of (xs ++ ys) ≡ map pending_of xs ++ map pending_of ys
-map-more [] ys = refl
-map-more (x ∷ xs) ys = ap (λ (l : List Pending). pending_of x ∷ l) (map-more xs ys)
 
 -- ---- which items of a list are due
 
@@ -289,7 +274,7 @@ known : (clock : Clock) (entries : List Entry) (given : ℕ) (s : JudgeState) (p
 known clock entries given s p st e behind =
     let all = all-taken clock entries given s st in
     let here = begun-current s p e in
-    take-whole (s.place + s.plan.look + 1) entries (omega arith)
+    take_all (s.place + s.plan.look + 1) entries (omega arith)
 
 judged-item : (clock : Clock) (entries : List Entry) (given : ℕ) (s : JudgeState) (item : Item) → StandsFor clock entries given s → s.current ≡ Some (PendingItem item) → length s.ahead ≤ s.plan.look
     → judged clock s.plan entries s.place (earlier_of clock entries s) (OfItem item) ≡ Some (verdict s.plan s.time (earlier_of clock entries s) s.place (timed clock s.plan entries item))
@@ -518,7 +503,7 @@ takes clock entries given e s noted new st opened idle notes puts =
     let settles = st.settles opened in
     let before : s.time ≡ latest (take s.place es) = st.now ∙ ap (λ (n : ℕ). latest (take n entries)) begun' ∙ ap latest (sym (take-first s.place entries (e ∷ []) within)) in
     let left' : map pending_of (drop s.place es) ≡ option_to_list new.current ++ new.ahead =
-    ap (map pending_of) (drop-more s.place entries (e ∷ []) within) ∙ map-more (drop s.place entries) (e ∷ [])
+    ap (map pending_of) (drop-append-le s.place entries (e ∷ []) within) ∙ map-append pending_of (drop s.place entries) (e ∷ [])
     ∙ ap (λ (l : List Pending). l ++ pending_of e ∷ []) (st.left ∙ ap (λ (o : Option Pending). option_to_list o ++ s.ahead) idle) ∙ sym puts.line in
     let judged' : s.place ≤ settled s.plan entries = omega arith in
     let same : by_instant (standing (latest (take s.place es)) (accepted clock s.plan es s.place)) ≡ before_of clock entries s =

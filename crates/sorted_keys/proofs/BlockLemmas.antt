@@ -23,11 +23,6 @@ from_lt x y h = grind (arith, ints)
 
 -- ---- facts about all items of a list
 
-all-take : {X : Type 0} (P : X → Type 0) (xs : List X) (n : ℕ) → AllByRecursion P xs → AllByRecursion P (take n xs)
-all-take P xs zero p = tt
-all-take P [] (suc n) p = tt
-all-take P (x ∷ xs) (suc n) p = (p.0, all-take P xs n p.1)
-
 pub all-at : {X : Type 0} (P : X → Type 0) (xs : List X) (n : ℕ) (d : X) → n < length xs → AllByRecursion P xs → P (get_or xs n d)
 all-at P [] n d l p = absurd (omega arith)
 all-at P (x ∷ xs) zero d l p = p.0

@@ -1,5 +1,5 @@
 -- Only private functions and proofs use these definitions. Sorted keys, and the blocks that hold them.
-use Rattle.std.specs.Prelude.{◌≡◌, ⊤, ℕ, ◌+◌, ◌*◌, ◌-◌, ◌==◌, ◌≤◌, zero, suc, Bool, true, false, if◌then◌else◌, ℤ, int_le, int_lt, ◌≤ℤ◌, ◌<ℤ◌, ◌<◌, List, [], ◌∷◌, length, take, drop, slice_index_or, slice_set, ◌++◌, vec_capacity, vec_len, Option, IfSome}
+use Rattle.std.specs.Prelude.{◌≡◌, ⊤, ℕ, ◌+◌, ◌*◌, ◌-◌, ◌≤◌, zero, suc, Bool, true, false, ℤ, int_le, int_lt, ◌≤ℤ◌, ◌<ℤ◌, ◌<◌, List, [], ◌∷◌, length, take, drop, slice_index_or, slice_set, ◌++◌, vec_capacity, vec_len, Option, IfSome}
 use Rattle.std.specs.Global.{Global, Vec}
 use Rattle.std.specs.Option.{option_to_list}
 use Rattle.std.specs.VecDeque.{deque_capacity}

@@ -1,8 +1,9 @@
 use Rattle.std.proofs.Common.{◌≡◌, All, length, rules, sym, ap, subst, ◌∙◌}
+use Rattle.std.proofs.lemmas.List.{nil_from_length}
 use Rattle.std.proofs.lemmas.List.Elements.{All-tail}
 use Rattle.schedule_judge.specs.Judge.{JudgeState}
 use Rattle.sample_schedule.specs.Limits.{IsEntry}
-use Rattle.schedule_judge.proofs.GivenLemmas.{between-first, between-more, empty_list, ends, shown-whole}
+use Rattle.schedule_judge.proofs.GivenLemmas.{between-first, between-more, ends, shown-whole}
 use Rattle.schedule_judge.proofs.whole.schedule.Goals as goal
 
 pub loop-entry-init : goal.loop-entry-init
@@ -23,5 +24,5 @@ loop-entry-preserved c = record {
 pub returns : goal.returns
 returns c clock asks =
     let none : length c.loop-entry.entries.items ≡ 0 = let h = c.in_default.ensures.cases.0 in search rules in
-    let last = ends clock c.args.plan.now c.args.entries.items c.loop-entry.entries.items c.loop-entry.list.items c.loop-entry.judge c.close.new.self asks c.loop-entry.invariant.between (empty_list c.loop-entry.entries.items none) (ap (λ (s : JudgeState). s.plan) c.close.ensures.same) (ap (λ (s : JudgeState). s.closed) c.close.ensures.same) (c.close.ensures.stands clock) in
+    let last = ends clock c.args.plan.now c.args.entries.items c.loop-entry.entries.items c.loop-entry.list.items c.loop-entry.judge c.close.new.self asks c.loop-entry.invariant.between (nil_from_length c.loop-entry.entries.items none) (ap (λ (s : JudgeState). s.plan) c.close.ensures.same) (ap (λ (s : JudgeState). s.closed) c.close.ensures.same) (c.close.ensures.stands clock) in
     shown-whole clock c.args.plan.now c.args.entries.items c.give_all-2.new.list.items c.close.new.self c.give_all-2.new.judge (c.in_ok-give_all-2.ensures.all clock c.args.entries.items last) (ap (λ (s : JudgeState). s.plan) c.close.ensures.same ∙ c.loop-entry.invariant.between.same) (ap (λ (s : JudgeState). s.closed) c.close.ensures.same) c.in_ok-give_all-2.ensures.keeps
