@@ -64,9 +64,6 @@ same-both ended_a ended_b QuietA QuietB m0 m1 m2 f g none =
     let e = f.idle (no-side A (wanted m0) none) in
     g.idle (no-side B (wanted m1) (ap wanted e ∙ none)) ∙ e
 
-differ : {P : Type 0} (o p q : Option Which) → o ≡ p → o ≡ q → p ≡ Some A → q ≡ None → P
-differ o p q e f a n = let x : Some A ≡ None = sym a ∙ sym e ∙ f ∙ n in absurd (cc)
-
 less-at : (ended_a ended_b : Bool) (QuietA QuietB : Type 0) (m0 m1 m2 : MatchingState) (o : Option Which) (a0 a1 b0 b1 : ℕ) → wanted m0 ≡ o → IsSome o → wanted m2 ≡ None → Fills A ended_a QuietA m0 m1 → Fills B ended_b QuietB m1 m2
     → a1 + open_sides m1 ≤ a0 + open_sides m0 → b1 + open_sides m2 ≤ b0 + open_sides m1
     → (wanted m0 ≡ Some A → (wanted m1 ≡ Some A) ⊎ (a1 + open_sides m1 < a0 + open_sides m0)) → (wanted m1 ≡ Some B → (wanted m2 ≡ Some B) ⊎ (b1 + open_sides m2 < b0 + open_sides m1))
@@ -187,14 +184,8 @@ asked-on ShowsA ShowsB list other given old new d p stands ea eb = record {
   matches = matched-on list other p.shown_a p.shown_b given old new d p.matches stands ea eb;
 }
 
-pub bounded-on : (over_a over_b : Bool) (QuietA QuietB : Type 0) (old new : MatchingState) → IsSettled over_a over_b QuietA QuietB old → new.ended_a ≡ old.ended_a → new.ended_b ≡ old.ended_b → IsBounded over_a over_b new
-bounded-on over_a over_b QuietA QuietB old new s ea eb = record { over_a = λ t. s.over_a (sym ea ∙ t); over_b = λ t. s.over_b (sym eb ∙ t) }
-
 pub pairs-zero : (ShowsA ShowsB : List Shown → ℕ → Type 0) (list other : List Shown) (given : ℕ) (m : MatchingState) → Pairs ShowsA ShowsB list other (given + 0) m → Pairs ShowsA ShowsB list other given m
 pairs-zero ShowsA ShowsB list other given m p = subst (λ (g : ℕ). Pairs ShowsA ShowsB list other g m) (omega arith) p
-
-pub holds-of : (ShowsA ShowsB : List Shown → ℕ → Type 0) (list other : List Shown) (given : ℕ) (m : MatchingState) → Pairs ShowsA ShowsB list other given m → Holds ShowsA ShowsB list other given m
-holds-of ShowsA ShowsB list other given m p = record { shown_a = p.shown_a; shown_b = p.shown_b; shows_a = p.shows_a; shows_b = p.shows_b; matches = p.matches }
 
 -- ---- what is returned
 

@@ -1,6 +1,6 @@
 -- The matching is given the items that a listener shows.
 use Rattle.std.proofs.Common.{◌≡◌, ℕ, zero, suc, ◌+◌, ◌<◌, ◌≤◌, Bool, true, false, ◌⊎◌, inl, inr, List, [], ◌∷◌, ◌++◌, length, take, drop, Option, Some, None, refl, sym, ap, ◌∙◌, subst, append-nil, arith}
-use Rattle.std.specs.Prelude.{IfNone, slice_get}
+use Rattle.std.specs.Prelude.{slice_get}
 use Rattle.std.specs.Option.{option_to_list}
 use Rattle.sample_schedule.specs.Batches.{Presented}
 use Rattle.sample_schedule.specs.declared.shown.Shown.{Shown}
@@ -11,7 +11,7 @@ use Rattle.listener_pair.specs.declared.difference.Which.TheVariants.{A, B}
 use Rattle.listener_pair.specs.Merged.{IsInOrder}
 use Rattle.listener_pair.specs.Matching.{MatchingState, StandsFor, ended_by, given_to, lacks, nexts_left, wanted}
 use Rattle.listener_pair.proofs.Standing.{ended-a, ended-b, given-a, given-b, lacks-open, wants-a, wants-b}
-use Rattle.capture_pair.specs.state.Sides.{Filled, Fills, Going, IsHeard, IsOtherSame, MatchesOn, ended_of, handed, is_passed, one_if_open, open_sides, wants_side}
+use Rattle.capture_pair.specs.state.Sides.{Filled, Going, IsHeard, MatchesOn, handed, is_passed, one_if_open, open_sides}
 use Rattle.capture_pair.proofs.Joined.{order-front}
 
 -- ---- what is presented
@@ -176,9 +176,6 @@ still-wanted which (Some (Flag frame seq reason)) ended m p w = absurd (cc)
 still-wanted which None true m p w = ends-no which m w
 still-wanted which None false m p w = record { none = refl; opened = refl }
 
-pub handed-none : (which : Which) (next : Option Shown) (ended : Bool) (m : MatchingState) → Waits next ended → handed which next ended m ≡ m
-handed-none which next ended m w = ap (λ (o : Option Shown). handed which o ended m) w.none ∙ ap (λ b. handed which None b m) w.opened
-
 pub handed-passed : (which : Which) (next : Option Shown) (ended : Bool) (m : MatchingState) → is_passed next ≡ true → handed which next ended m ≡ m
 handed-passed which (Some (Present batch)) ended m p = absurd (cc)
 handed-passed which (Some (Flag frame seq reason)) ended m p = refl
@@ -196,30 +193,6 @@ waits-all n list next ended w within e =
 pub within-on : (which : Which) (list other : List Shown) (n k given : ℕ) (m : MatchingState) → MatchesOn which list other n k given m → n ≤ length list
 within-on A list other n k given m h = h.within_a
 within-on B list other n k given m h = h.within_b
-
-pub other-same : (which : Which) (next : Option Shown) (ended : Bool) (m : MatchingState) → IsOtherSame which m (handed which next ended m)
-other-same A (Some (Present batch)) ended m = (refl, refl)
-other-same B (Some (Present batch)) ended m = (refl, refl)
-other-same A (Some (Flag frame seq reason)) ended m = (refl, refl)
-other-same B (Some (Flag frame seq reason)) ended m = (refl, refl)
-other-same A None true m = (refl, refl)
-other-same B None true m = (refl, refl)
-other-same A None false m = (refl, refl)
-other-same B None false m = (refl, refl)
-
-pub none-same : (which : Which) (m : MatchingState) → IsOtherSame which m m
-none-same A m = (refl, refl)
-none-same B m = (refl, refl)
-
-pub over-after : (which : Which) (next : Option Shown) (ended : Bool) (m : MatchingState) → (ended_of which m ≡ true → ended ≡ true) → ended_of which (handed which next ended m) ≡ true → ended ≡ true
-over-after A (Some (Present batch)) ended m h t = h t
-over-after B (Some (Present batch)) ended m h t = h t
-over-after A (Some (Flag frame seq reason)) ended m h t = h t
-over-after B (Some (Flag frame seq reason)) ended m h t = h t
-over-after A None true m h t = refl
-over-after B None true m h t = refl
-over-after A None false m h t = h t
-over-after B None false m h t = h t
 
 -- ---- the work that is left
 
@@ -260,24 +233,6 @@ handed-nexts A None true m was is le = omega arith
 handed-nexts B None true m was is le = omega arith
 handed-nexts which None false m was is le = omega arith
 
--- ---- whether a side is wanted
-
-pub wants-yes : (which : Which) (o : Option Which) → wants_side which o ≡ true → o ≡ Some which
-wants-yes A (Some A) e = refl
-wants-yes B (Some B) e = refl
-wants-yes A (Some B) e = absurd (cc)
-wants-yes B (Some A) e = absurd (cc)
-wants-yes A None e = absurd (cc)
-wants-yes B None e = absurd (cc)
-
-pub wants-no : {P : Type 0} (which : Which) (o : Option Which) → wants_side which o ≡ false → o ≡ Some which → P
-wants-no A (Some A) e w = absurd (cc)
-wants-no B (Some B) e w = absurd (cc)
-wants-no A (Some B) e w = absurd (cc)
-wants-no B (Some A) e w = absurd (cc)
-wants-no A None e w = absurd (cc)
-wants-no B None e w = absurd (cc)
-
 -- ---- steps of `fill`
 
 pub going-next : (Shows Shows2 : List Shown → ℕ → Type 0) (which : Which) (list other : List Shown) (k given : ℕ) (m m2 : MatchingState) (next : Option Shown) (ended : Bool) → IsHeard list → IsHeard other → wanted m ≡ Some which
@@ -295,34 +250,4 @@ going-filled Shows Shows2 which list other k given m m2 next ended hl ho w p get
   shows = more h.n h.shows;
   matches = subst (λ (s : MatchingState). MatchesOn which list other (h.n + length (option_to_list next)) k given s) (sym e) (hands-on which list other h.n k given m next ended hl ho w (get h.n h.shows) h.matches);
   filled = λ v. waits-all h.n list next ended (still-wanted which next ended m p (ap wanted (sym e) ∙ v)) (within-on which list other h.n k given m h.matches) (get h.n h.shows);
-}
-
-pub filled-none : (Shows : List Shown → ℕ → Type 0) (which : Which) (list other : List Shown) (n k given : ℕ) (m : MatchingState) → wants_side which (wanted m) ≡ false → Shows list n → MatchesOn which list other n k given m → Filled Shows which list other k given m
-filled-none Shows which list other n k given m not s h = record { n = n; shows = s; matches = h; filled = λ w. wants-no which (wanted m) not w }
-
-if-quiet : {Quiet : Type 0} (next : Option Shown) → IfNone next Quiet → next ≡ None → Quiet
-if-quiet None q e = q
-if-quiet (Some x) q e = absurd (cc)
-
-pub fills-handed : (which : Which) (next : Option Shown) (ended : Bool) (Quiet : Type 0) (old m new : MatchingState) → m ≡ old → wanted m ≡ Some which → is_passed next ≡ false → new ≡ handed which next ended m → IfNone next Quiet → Fills which ended Quiet old new
-fills-handed which next ended Quiet old m new same w p e quiet =
-    let e2 : new ≡ handed which next ended old = e ∙ ap (handed which next ended) same in
-    let w2 : wanted old ≡ Some which = ap wanted (sym same) ∙ w in
-    record {
-      idle = λ not. wants-no which (wanted old) not w2;
-      same = λ v. e2 ∙ handed-none which next ended old (still-wanted which next ended old p (ap wanted (sym e2) ∙ v));
-      opened = λ v. (still-wanted which next ended old p (ap wanted (sym e2) ∙ v)).opened;
-      quiet = λ v. if-quiet next quiet (still-wanted which next ended old p (ap wanted (sym e2) ∙ v)).none;
-      other = subst (IsOtherSame which old) (sym e2) (other-same which next ended old);
-      over = λ h t. over-after which next ended old h (ap (ended_of which) (sym e2) ∙ t);
-    }
-
-pub fills-none : (which : Which) (ended : Bool) (Quiet : Type 0) (m : MatchingState) → wants_side which (wanted m) ≡ false → Fills which ended Quiet m m
-fills-none which ended Quiet m not = record {
-  idle = λ n. refl;
-  same = λ w. refl;
-  opened = λ w. wants-no which (wanted m) not w;
-  quiet = λ w. wants-no which (wanted m) not w;
-  other = none-same which m;
-  over = λ h t. h t;
 }

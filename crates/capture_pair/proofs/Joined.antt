@@ -329,10 +329,6 @@ pub record GoesOn (xs ys more_a more_b : List Presented) (over_a over_b : Bool) 
 abbrev pub rest_of : Option Presented → List Presented → List Presented
 rest_of next more = option_to_list next ++ more
 
-either : (b : Bool) → (b ≡ true) ⊎ (b ≡ false)
-either true = inl refl
-either false = inr refl
-
 cross-at : (s : Which) (done : List Sided) (next : Option Presented) (ended lack : Bool) (more : List Presented) → lacks ended next ≡ lack → IsSorted done → (lacks ended next ≡ true → EndsOn s done) → (ended ≡ true → more ≡ [])
     → AllByRecursion (λ d. AllByRecursion (λ r. MayPrecede d (of_side s r)) (option_to_list next)) done → IsInOrder (batches_of s done ++ rest_of next more) → Crosses s (rest_of next more) done
 cross-at s done (Some a) ended lack more l sorted ends none first order =

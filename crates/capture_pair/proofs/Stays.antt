@@ -1,6 +1,6 @@
 -- Whatever a pair's sides present later, the differences that the pair has already returned are still the first known
 -- differences.
-use Rattle.std.proofs.Common.{◌≡◌, ℕ, zero, suc, ◌+◌, ◌≤◌, Bool, true, false, List, [], ◌∷◌, ◌++◌, length, take, drop}
+use Rattle.std.proofs.Common.{◌≡◌, ℕ, zero, suc, ◌≤◌, Bool, true, false, List, [], ◌∷◌, ◌++◌, length, take, drop}
 use Rattle.std.proofs.Common.{◌||◌, Option, Some, None, refl, sym, ap, ◌∙◌, subst, append_assoc, append-nil, length-append, arith}
 use Rattle.std.specs.Prelude.{slice_get}
 use Rattle.std.specs.List.{list_any}
@@ -24,7 +24,7 @@ use Rattle.listener_pair.specs.Matching.{MatchingState, batches_of, wanted}
 use Rattle.listener_pair.proofs.Counting.{differences-front}
 use Rattle.listener_pair.proofs.PairLaws.{known-all as known-both}
 use Rattle.listener_pair.proofs.Standing.{lacks-none, lacks-open, wants-a, wants-b}
-use Rattle.capture_pair.specs.Pairing.{Changes, Continues, EndsAreClosed, HavePlan, Keeps, Matches, PairState, StandsFor, known_by, presented_by, wanted_by}
+use Rattle.capture_pair.specs.Pairing.{Continues, EndsAreClosed, HavePlan, Matches, PairState, StandsFor, known_by, presented_by, wanted_by}
 use Rattle.capture_pair.proofs.Filling.{none-left}
 use Rattle.capture_pair.proofs.Handing.{presented-append, presented-split}
 use Rattle.capture_pair.proofs.Heard.{due-in-order, out-in-order, shown-in-order}
@@ -236,82 +236,7 @@ given-stays records others more more_others given old new s ends c =
     ∙ sym (further-take (out old.a records) (out old.b others) s.shown_a s.shown_b given (presented_by old.a records) (presented_by old.b others)
     (is_closed old.a) (is_closed old.b) old.matching s.matches (further-now records others old ends))
 
--- after the pair takes more records, the number of known differences is at least `given`
-pub given-within-more : (records others more more_others : List Record) (given : ℕ) (old new : PairState)
-    → StandsFor records others given old → EndsAreClosed old → Continues more more_others old new
-    → given ≤ length (differences (known_by new (records ++ more) (others ++ more_others)))
-given-within-more records others more more_others given old new s ends c =
-    further-within (out old.a records) (out old.b others) s.shown_a s.shown_b given
-    (presented_by new.a (records ++ more)) (presented_by new.b (others ++ more_others)) (is_closed new.a) (is_closed new.b) old.matching
-    s.matches (further-then records others more more_others old new ends c)
-
 -- ---- what each call does
-
-pub continues-record-a : (r : Record) (old new : PairState) → is_closed old.a ≡ false → Changes A 1 false old new → Continues (r ∷ []) [] old new
-continues-record-a r old new opened c = record {
-  plan_a = c.plan_a;
-  plan_b = c.plan_b;
-  closed_a = λ t. never-both (is_closed old.a) opened t;
-  closed_b = λ t. (c.other_closed ∙ t, refl);
-}
-
-pub continues-record-b : (r : Record) (old new : PairState) → is_closed old.b ≡ false → Changes B 1 false old new → Continues [] (r ∷ []) old new
-continues-record-b r old new opened c = record {
-  plan_a = c.plan_a;
-  plan_b = c.plan_b;
-  closed_a = λ t. (c.other_closed ∙ t, refl);
-  closed_b = λ t. never-both (is_closed old.b) opened t;
-}
-
-pub continues-close : (which : Which) (old new : PairState) → Changes which 0 true old new → Continues [] [] old new
-continues-close A old new c = record { plan_a = c.plan_a; plan_b = c.plan_b; closed_a = λ t. (c.closed, refl); closed_b = λ t. (c.other_closed ∙ t, refl) }
-continues-close B old new c = record { plan_a = c.plan_a; plan_b = c.plan_b; closed_a = λ t. (c.other_closed ∙ t, refl); closed_b = λ t. (c.closed, refl) }
-
--- if a record of A is taken, the differences that the pair has returned are still the first known differences
-pub taken-stays-a : (r : Record) (records others : List Record) (given : ℕ) (old new : PairState)
-    → StandsFor records others given old → EndsAreClosed old → is_closed old.a ≡ false → Changes A 1 false old new
-    → take given (differences (known_by new (records ++ r ∷ []) others)) ≡ take given (differences (known_by old records others))
-taken-stays-a r records others given old new s ends opened c =
-    ap (λ (l : List Record). take given (differences (known_by new (records ++ r ∷ []) l))) (sym (append-nil others))
-    ∙ given-stays records others (r ∷ []) [] given old new s ends (continues-record-a r old new opened c)
-
--- the pair has returned some differences; after a record of B is taken, these are still the first known differences
-pub taken-stays-b : (r : Record) (records others : List Record) (given : ℕ) (old new : PairState)
-    → StandsFor records others given old → EndsAreClosed old → is_closed old.b ≡ false → Changes B 1 false old new
-    → take given (differences (known_by new records (others ++ r ∷ []))) ≡ take given (differences (known_by old records others))
-taken-stays-b r records others given old new s ends opened c =
-    ap (λ (l : List Record). take given (differences (known_by new l (others ++ r ∷ [])))) (sym (append-nil records))
-    ∙ given-stays records others [] (r ∷ []) given old new s ends (continues-record-b r old new opened c)
-
--- if a side is closed, the differences that the pair has returned are still the first known differences
-pub closed-stays : (which : Which) (records others : List Record) (given : ℕ) (old new : PairState) → StandsFor records others given old → EndsAreClosed old
-    → Changes which 0 true old new → take given (differences (known_by new records others)) ≡ take given (differences (known_by old records others))
-closed-stays which records others given old new s ends c =
-    ap (λ (l : List Record). take given (differences (known_by new l others))) (sym (append-nil records))
-    ∙ ap (λ (l : List Record). take given (differences (known_by new (records ++ []) l))) (sym (append-nil others))
-    ∙ given-stays records others [] [] given old new s ends (continues-close which old new c)
-
-known-as : (old new : PairState) (records others : List Record) → new.a.plan ≡ old.a.plan → new.b.plan ≡ old.b.plan
-    → is_closed new.a ≡ is_closed old.a → is_closed new.b ≡ is_closed old.b → known_by new records others ≡ known_by old records others
-known-as old new records others pa pb ca cb =
-    ap (λ e. known e (is_closed new.b) (merged (presented_by new.a records) (presented_by new.b others))) ca
-    ∙ ap (λ e. known (is_closed old.a) e (merged (presented_by new.a records) (presented_by new.b others))) cb
-    ∙ ap (λ (l : List Shown). known (is_closed old.a) (is_closed old.b) (merged (presented_of l) (presented_by new.b others)))
-    (out_same old.a new.a records pa ca)
-    ∙ ap (λ (l : List Shown). known (is_closed old.a) (is_closed old.b) (merged (presented_by old.a records) (presented_of l)))
-    (out_same old.b new.b others pb cb)
-
--- asking a pair for a difference does not change its known part
-pub known-kept : (old new : PairState) (records others : List Record) → Keeps old new → known_by new records others ≡ known_by old records others
-known-kept old new records others k = known-as old new records others k.plan_a k.plan_b k.closed_a k.closed_b
-
-pub given-next : (list : List Difference) (given : ℕ) (d : Difference) → slice_get list given ≡ Some d → take (given + 1) list ≡ take given list ++ d ∷ []
-given-next list given d e = let one : given + 1 ≡ suc given = omega arith in ap (λ n. take n list) one ∙ at list given e
-  where
-    at : (l : List Difference) (n : ℕ) → slice_get l n ≡ Some d → take (suc n) l ≡ take n l ++ d ∷ []
-    at [] n e = absurd (cc)
-    at (x ∷ l) zero e = let s : x ≡ d = cc in ap (λ (z : Difference). z ∷ []) s
-    at (x ∷ l) (suc n) e = ap (λ (z : List Difference). x ∷ z) (at l n e)
 
 pub given-all : (list : List Difference) (given : ℕ) → slice_get list given ≡ None → take given list ≡ list
 given-all [] zero e = refl

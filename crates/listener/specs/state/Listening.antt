@@ -14,7 +14,7 @@ use Rattle.listener.specs.declared.heard.Counts.{Counts}
 use Rattle.packet_journal.specs.Deliveries.{Delivery}
 use Rattle.listener.specs.Gathering.{Gathered, HasUnits, left}
 use Rattle.listener.specs.Items.{given_by, made_entry}
-use Rattle.listener.specs.Listening.{ListenState, is_closed, IsIdle, Judges, Keeps, StandsFor, out, work}
+use Rattle.listener.specs.Listening.{ListenState, is_closed, IsIdle, Judges, StandsFor}
 
 -- the counts after one more record; `in_stream` says whether the record belongs to the stream
 abbrev pub with_record : Counts → Bool → Counts
