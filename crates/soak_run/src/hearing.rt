@@ -4,7 +4,7 @@ ghost use Rattle.std.specs.Prelude.{◌≡◌, ◌≤◌, ◌<◌, ◌^◌, [], 
 ghost use Rattle.listener.specs.Listening.{StandsFor, is_closed};
 ghost use Rattle.talker.specs.Journal.{stream_of};
 ghost use Rattle.soak_run.specs.Captured.{captured};
-ghost use Rattle.soak_run.specs.state.Hearing.{AreDeliverable, IsDeliverable, IsReady, Takes, closed_at, records_of, shown_by};
+ghost use Rattle.soak_run.specs.state.Hearing.{AreDeliverable, CanDeliver, Delivers, IsDeliverable, closed_at, records_of, shown_by};
 
 use avtp_base::NoMemory;
 use listener::{ListenPlan, RecordListener};
@@ -44,10 +44,8 @@ fn deliver(
     listener: &mut RecordListener,
     delivery: (i64, u64),
 ) -> Result<(), NoMemory>
-    requires deliverable { IsDeliverable talker.old delivery }
-    requires ready { IsReady listener.old }
-    ensures takes { Takes (captured (stream_of talker.old.plan talker.old.input) delivery) listener.old listener.new result }
-    ensures talker { talker.new ≡ talker.old }
+    requires { CanDeliver talker.old listener.old delivery }
+    ensures { Delivers talker.old talker.new delivery listener.old listener.new result }
 {
     let (arrival, number) = delivery;
     let sent = talker.packet(number);
@@ -77,11 +75,7 @@ pub struct Hearing<'a> {
 }
 
 impl<'a> Hearing<'a> {
-    ghost use Rattle.std.specs.Prelude.{MatchResult};
-    ghost use Rattle.sample_schedule.specs.declared.shown.Shown.{Shown as ShownValue};
-    ghost use Rattle.soak_run.specs.declared.hearing.Hearing.{Hearing as HearingValue};
-    ghost use Rattle.soak_run.specs.state.Hearing.{left_of, pull_at, steps_left};
-    ghost use Rattle.soak_run.specs.state.Showing.{HasBegun, HasShown, IsWaiting};
+    ghost use Rattle.soak_run.specs.state.Showing.{GoesOn, HasBegun, IsWaiting};
 
     /// A hearing before the first delivery is given.
     pub fn begin(
@@ -107,9 +101,7 @@ impl<'a> Hearing<'a> {
     /// due before the call must have been shown.
     fn go_on(&mut self) -> Result<(), NoMemory>
         requires { IsWaiting self.old }
-        ensures shows { (begun : HearingValue) (items : List ShownValue) → HasShown begun self.old items → HasShown begun self.new items }
-        ensures left { left_of self.new.deliveries.now self.new.listener ≤ left_of self.old.deliveries.now self.old.listener }
-        ensures on { MatchResult result (λ _. (pull_at self.new.stage ≡ None) × (steps_left self.new.stage self.new.deliveries.now self.new.given < steps_left self.old.stage self.old.deliveries.now self.old.given)) (λ _. self.new.stage ≡ Stage.Giving) }
+        ensures { GoesOn self.old self.new result }
     {
         if self.given < self.deliveries.len() {
             let delivery = self.deliveries[self.given];

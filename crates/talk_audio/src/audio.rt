@@ -7,7 +7,7 @@ ghost use Rattle.talk_plan.specs.Places.{IsPacketOf};
 ghost use Rattle.talk_plan.specs.Plan.{IsAudioPlan};
 ghost use Rattle.talk_audio.specs.Samples.{filled_up, is_whole as is_whole_by};
 ghost use Rattle.talk_audio.specs.Streams.{IsAudio, IsPacketOfInput, audio_of, headers_of, packets_of, samples_size};
-ghost use Rattle.talk_audio.specs.state.Packets.{IsSentInto};
+ghost use Rattle.talk_audio.specs.state.Packets.{TakesRest, TakesSamples};
 ghost use Rattle.talk_plan.specs.Timing.{arrival_of};
 
 use crate::am824::{Am824Format, BLOCKS_HEADER, block_size, silent_quadlets};
@@ -125,8 +125,7 @@ impl AudioStream {
     /// Writes the frame of packet `n`, which is sent at `arrival`, with the given samples.
     #[inline(always)]
     fn write_samples(&self, out: &mut [u8], n: u64, arrival: i64, samples: &[u8])
-        requires frame { IsSentInto self.now n arrival out.old }
-        requires whole { length samples.now ≡ samples_size self.now }
+        requires { TakesSamples self.now n arrival samples.now out.old }
         ensures { out.new ≡ packet_bytes ((audio_of self.now).packet n samples.now) }
     {
         match &self.format {
@@ -143,8 +142,7 @@ impl AudioStream {
     #[cold]
     #[inline(never)]
     fn write_last(&self, out: &mut [u8], n: u64, arrival: i64, rest: &[u8])
-        requires frame { IsSentInto self.now n arrival out.old }
-        requires part { length rest.now ≤ samples_size self.now }
+        requires { TakesRest self.now n arrival rest.now out.old }
         ensures { out.new ≡ packet_bytes ((audio_of self.now).packet n (filled_up (audio_of self.now).silence rest.now)) }
     {
         let mut filled = self.silence();

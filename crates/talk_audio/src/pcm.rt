@@ -3,7 +3,7 @@
 ghost use Rattle.std.specs.Prelude.{◌≡◌, ◌+◌, ◌*◌, ◌≤◌, ◌<◌, ◌^◌, ◌++◌, [], length, pos, take, drop, Option, Some, None};
 ghost use Rattle.aaf_format.specs.Aaf.{aaf_shape, frame_size as frame_size_of};
 ghost use Rattle.talk_audio.specs.Packets.{aaf_bytes, aaf_packet, kind_of, stamp_of};
-ghost use Rattle.talk_audio.specs.state.Packets.{IsPcmPacket, IsPlanWith, front_of, patched};
+ghost use Rattle.talk_audio.specs.state.Packets.{CanPatch, IsPcmOf, IsPcmPacket, IsPlanWith, front_of, patched};
 ghost use Rattle.talk_plan.specs.Places.{IsSentAt};
 ghost use Rattle.talk_plan.specs.Plan.{IsAudioPlan, rate_code as rate_code_of};
 ghost use Rattle.talk_audio.specs.Streams.{HasHeaders, IsPcm, IsPcmStream};
@@ -124,8 +124,7 @@ impl PcmFormat {
 
     /// The headers of packet 0's frame.
     fn first_headers(&self, plan: &TalkPlan) -> [u8; HEADERS]
-        requires plan { IsAudioPlan plan.now }
-        requires format { IsPcm self.now plan.now }
+        requires { IsPcmOf self.now plan.now }
         ensures { HasHeaders result (aaf_packet self.now.format self.now.sparse plan.now 0 []) }
     {
         let samples = [0; SAMPLES_LIMIT];
@@ -217,8 +216,7 @@ impl PcmFormat {
         timestamp: u32,
         samples: &[u8],
     )
-        requires room { (length out.old ≡ 42 + length samples.now) × (length self.now.headers ≡ 42) }
-        requires within { at + N ≤ 12 }
+        requires { CanPatch self.now.headers at N samples.now out.old }
         ensures { out.new ≡ take 18 self.now.headers ++ (patched (drop 18 self.now.headers) at part.now timestamp ++ samples.now) }
     {
         let (headers, behind) = out.split_at_mut(out.len() - samples.len());

@@ -7,7 +7,7 @@ ghost use Rattle.talk_clock.specs.Clock.{clock_arrival, clock_mr, clock_packet, 
 ghost use Rattle.talk_clock.specs.Clock.{points_size, AreFew, clock_frame_size, clock_bytes};
 ghost use Rattle.talk_plan.specs.Plan.{IsAudioPlan};
 ghost use Rattle.talk_clock.specs.Streams.{IsClockOf, IsClockStream, IsPacketOfClock, IsPointOfClock};
-ghost use Rattle.talk_clock.specs.state.Points.{IsFirstPoint, IsInstantOf, IsPlaceOf, IsSizeOf};
+ghost use Rattle.talk_clock.specs.state.Points.{HasTimestamps, IsFirstPoint, IsInstantOf, IsPlaceOf, IsSizeOf, TakesPoints, TakesTimestamps};
 
 use byteorder::{BigEndian, ByteOrder};
 use crf_format::{CrfView, write_crf};
@@ -126,8 +126,7 @@ impl ClockStream {
 
     /// Writes the points of packet `m` into `points`.
     fn write_points(&self, points: &mut [u64], m: u64)
-        requires packet { IsPacketOfClock self.now m }
-        requires room { length points.old ≡ points_size self.now.crf self.now.plan self.now.stream m }
+        requires { TakesPoints self.now m points.old }
         ensures { points.new ≡ points_in self.now.crf self.now.plan self.now.stream m }
     {
         let first = self.first(m);
@@ -138,8 +137,7 @@ impl ClockStream {
 
     /// Writes the timestamps of packet `m` into `out`.
     fn write_timestamps(&self, out: &mut [u8], m: u64)
-        requires packet { IsPacketOfClock self.now m }
-        requires room { length out.old ≡ 8 * points_size self.now.crf self.now.plan self.now.stream m }
+        requires { TakesTimestamps self.now m out.old }
         ensures { out.new ≡ flat_map (big_bytes 8) (points_in self.now.crf self.now.plan self.now.stream m) }
     {
         let mut points = [0; POINTS_LIMIT];
@@ -150,8 +148,7 @@ impl ClockStream {
 
     /// Packet `m` with its timestamps.
     fn packet<'a>(&self, m: u64, timestamps: &'a [u8]) -> CrfView<'a>
-        requires packet { IsPacketOfClock self.now m }
-        requires whole { timestamps.now ≡ flat_map (big_bytes 8) (points_in self.now.crf self.now.plan self.now.stream m) }
+        requires { HasTimestamps self.now m timestamps.now }
         ensures { crf_shape result ≡ clock_packet self.now.crf self.now.plan self.now.stream m }
     {
         let (first, _) = self.place(self.first(m));

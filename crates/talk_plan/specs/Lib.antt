@@ -6,3 +6,4 @@ pub mod Stamps
 pub mod Headers
 pub mod Ethernet
 pub mod Rows
+pub mod state

@@ -5,8 +5,9 @@ ghost use Rattle.talk_plan.specs.Stamps.{stamped_by, stamped_instant as stamped_
 ghost use Rattle.talk_plan.specs.Headers.{header_of};
 ghost use Rattle.talk_plan.specs.Places.{IsFrameOf, IsPacketOf, IsSentAt};
 ghost use Rattle.talk_plan.specs.Plan.{IsAudioPlan, Restarts, spacing_of};
-ghost use Rattle.talk_plan.specs.Timing.{arrival_of, event_of, mr_of, first_packet as first_packet_of, nominal_instant, nominal_offset as nominal_offset_of};
-ghost use Rattle.talk_plan.specs.Timing.{run_of, run_start as run_start_of};
+ghost use Rattle.talk_plan.specs.Timing.{arrival_of, mr_of, first_packet as first_packet_of, nominal_instant, nominal_offset as nominal_offset_of};
+ghost use Rattle.talk_plan.specs.Timing.{run_of};
+ghost use Rattle.talk_plan.specs.state.Places.{CountsFrames, IsClockedFrame, IsEvent, IsPart, IsRunStart};
 
 use crate::plan::{CrfPlan, TalkPlan};
 use avtp_header::StreamHeader;
@@ -17,8 +18,7 @@ const NANOSECONDS: u64 = 1_000_000_000;
 /// How long `parts` of `whole` equal parts of a period take, rounded down.
 fn part(parts: u64, period: u64, whole: u64) -> u64
     requires { parts < whole }
-    ensures value { result ≡ parts * period / whole }
-    ensures bound { result ≤ period }
+    ensures { IsPart parts period whole result }
 {
     (u128::from(parts) * u128::from(period) / u128::from(whole)) as u64
 }
@@ -53,8 +53,7 @@ impl TalkPlan {
     /// number takes ten times as long.
     #[tactic(auto, using(crate::proofs::RateLemmas::rate_from, crate::proofs::TimingLemmas::short_offset))]
     fn offset(&self, frames: u64) -> u64
-        requires plan { IsAudioPlan self.now }
-        requires frames { frames ≤ 2 ^ 29 }
+        requires { CountsFrames self.now frames }
         ensures { result ≡ nominal_offset_of self.now.rate frames }
     {
         match self.rate {
@@ -69,8 +68,7 @@ impl TalkPlan {
     #[tactic(auto, using(crate::proofs::RunLemmas::in_run, crate::proofs::RateLemmas::rate_from, crate::proofs::TimingLemmas::few_jumps, crate::proofs::TimingLemmas::short_offset))]
     fn run_start(&self, n: u64) -> u64
         requires { IsPacketOf self.now n }
-        ensures value { result ≡ run_start_of self.now (run_of self.now n) }
-        ensures bound { result ≤ 2 ^ 63 }
+        ensures { IsRunStart self.now n result }
     {
         let start = self.start as u64 + u64::from(self.lead);
         if self.restart.is_none() {
@@ -84,8 +82,7 @@ impl TalkPlan {
     #[tactic(auto, using(crate::proofs::RunLemmas::in_run, crate::proofs::TimingLemmas::first_before))]
     fn event(&self, n: u64, i: u32) -> u64
         requires { IsFrameOf self.now n i }
-        ensures value { result ≡ event_of self.now n i }
-        ensures bound { result ≤ 2 ^ 29 }
+        ensures { IsEvent self.now n i result }
     {
         (n - self.first_packet(n)) * u64::from(self.count) + u64::from(i)
     }
@@ -121,8 +118,7 @@ impl TalkPlan {
     #[cold]
     #[inline(never)]
     fn clocked_instant(&self, crf: &CrfPlan, n: u64, i: u32) -> u64
-        requires frame { IsFrameOf self.now n i }
-        requires clock { self.now.crf ≡ Some crf.now }
+        requires { IsClockedFrame self.now crf.now n i }
         ensures { result ≡ stamped_by (Some crf.now) self.now n i }
     {
         let spacing = self.spacing(crf);

@@ -1,5 +1,5 @@
 -- A stream of H.264 as it is sent: the units of its byte stream, with the packets that carry them.
-use Rattle.std.specs.Prelude.{◌≡◌, ℕ, ◌<◌, ◌≤◌, List, length, map, None}
+use Rattle.std.specs.Prelude.{◌≡◌, ℕ, ◌<◌, ◌≤◌, Bool, List, length, map, None}
 use Rattle.std.specs.List.{range_with_len}
 use Rattle.cvf_format.specs.AnnexB.{nal_units}
 use Rattle.cvf_format.specs.Cvf.{Cvf}
@@ -52,6 +52,14 @@ pub record IsVideo (v : VideoStream) : Type 0 where
   pub inside : AreInside v.input.now (length (nal_units v.input.now))
   pub packets : v.packets ≡ all_packets (nal_units v.input.now)
   pub few : v.packets ≤ most_input
+
+-- A valid plan of H.264 sends `input`, a byte stream that is not too long and has no fault. If `last_stamp` is true, the
+-- plan stamps only the last packet of each unit.
+pub record SendsVideo (plan : TalkPlan) (last_stamp : Bool) (input : List ℕ) : Type 0 where
+  pub valid : IsVideoPlan plan
+  pub kind : plan.kind ≡ H264 last_stamp
+  pub limit : length input ≤ most_input
+  pub accepted : units_fault input ≡ None
 
 -- `v` is the stream of H.264 of this plan and this byte stream
 pub record IsVideoOf (plan : TalkPlan) (input : List ℕ) (v : VideoStream) : Type 0 where

@@ -5,7 +5,7 @@ ghost use Rattle.cvf_format.specs.AnnexB.{nal_units};
 ghost use Rattle.talk_video.specs.AccessUnits.{has_slice as has_slice_in, is_first_slice as is_first_slice_in, may_begin as may_begin_in, type_in};
 ghost use Rattle.cvf_format.specs.Cvf.{is_single_type};
 ghost use Rattle.talk_video.specs.Fragments.{all_packets};
-ghost use Rattle.talk_video.specs.state.Listing.{IsEnded, IsNext, IsWalk, walked};
+ghost use Rattle.talk_video.specs.state.Listing.{CanPass, IsEnded, IsNext, IsWalk, walked};
 ghost use Rattle.talk_plan.specs.Plan.{most_input};
 ghost use Rattle.talk_video.specs.Streams.{HasListed, IsInside};
 ghost use Rattle.talk_video.specs.Units.{units_fault as units_fault_of};
@@ -109,8 +109,7 @@ impl Units {
 
     /// The walk after it has passed one more unit.
     fn with(&self, bytes: &[u8], from: usize, to: usize) -> Self
-        requires walk { IsWalk bytes.now self.now }
-        requires unit { IsInside bytes.now (from, to) }
+        requires { CanPass bytes.now self.now (from, to) }
         ensures { result ≡ walked bytes.now self.now (from, to) }
     {
         let begins = self.sliced && may_begin(bytes, from, to);

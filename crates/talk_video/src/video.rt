@@ -9,8 +9,8 @@ ghost use Rattle.talk_plan.specs.declared.plan.TalkKind.TheVariants.{H264};
 ghost use Rattle.talk_video.specs.Fragments.{access_unit_of, body_by, ends_access_unit as ends_access_unit_of, packets_for, part_by, rest_in};
 ghost use Rattle.talk_plan.specs.Ethernet.{packet_bytes};
 ghost use Rattle.talk_plan.specs.Plan.{IsVideoPlan, most_input};
-ghost use Rattle.talk_video.specs.state.Listing.{IsCarried, IsFragmentAt, IsUnitAt};
-ghost use Rattle.talk_video.specs.Streams.{IsPacketOfVideo, IsVideoOf, video_packet};
+ghost use Rattle.talk_video.specs.state.Listing.{HasAccessUnit, IsCarried, IsFragmentAt, IsFullPart, IsUnitAt};
+ghost use Rattle.talk_video.specs.Streams.{IsPacketOfVideo, IsVideoOf, SendsVideo, video_packet};
 ghost use Rattle.talk_video.specs.Units.{units_fault};
 ghost use Rattle.talk_video.specs.Video.{access_instant, stamp_by, video_arrival};
 
@@ -55,8 +55,7 @@ fn counted_header(part: NalPart) -> usize
 /// Fragment `k` of `rest`, the bytes of a unit after its first byte.
 fn fragment(rest: &[u8], k: usize) -> &[u8]
     requires { k * 1398 ≤ length rest.now }
-    ensures value { result.now ≡ take 1398 (drop (k * 1398) rest.now) }
-    ensures short { length result.now ≤ 1398 }
+    ensures { IsFullPart rest.now k result.now }
 {
     let behind = &rest[k * FULL_BODY..];
     if behind.len() < FULL_BODY {
@@ -111,10 +110,7 @@ impl<'a> VideoStream<'a> {
         last_stamp: bool,
         input: &'a [u8],
     ) -> Result<Self, TalkFault>
-        requires plan { IsVideoPlan plan }
-        requires kind { plan.kind ≡ H264 last_stamp }
-        requires limit { length input.now ≤ most_input }
-        requires accepted { units_fault input.now ≡ None }
+        requires { SendsVideo plan last_stamp input.now }
         ensures made { IfOk result (IsVideoOf plan input.now) }
         ensures only { IfErr result (λ fault. fault ≡ Memory) }
     {
@@ -146,8 +142,7 @@ impl<'a> VideoStream<'a> {
     /// The instant of an access unit, in nanoseconds of gPTP.
     #[tactic(auto, unfolding(crate::specs::Video::access_instant))]
     fn instant(&self, access_unit: u64) -> u64
-        requires plan { IsVideoPlan self.now.plan }
-        requires few { access_unit ≤ most_input }
+        requires { HasAccessUnit self.now access_unit }
         ensures { result ≡ access_instant self.now.plan access_unit }
     {
         self.plan.start as u64

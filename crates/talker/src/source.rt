@@ -1,10 +1,9 @@
 //! What makes the packets of a stream.
 
-ghost use Rattle.std.specs.Prelude.{◌≡◌, ◌<◌, ◌≤◌, length, pos, false, Some, None};
+ghost use Rattle.std.specs.Prelude.{◌≡◌, length, pos, false, Some, None};
 ghost use Rattle.talk_plan.specs.Ethernet.{packet_bytes};
-ghost use Rattle.talk_plan.specs.Plan.{IsPlan, most_input};
 ghost use Rattle.talk_clock.specs.Streams.{IsClockOf};
-ghost use Rattle.talker.specs.state.Talking.{BeginsSource, HasPackets, IsPacketOfSource, IsSentFrom, IsSource, plan_in, stream_in};
+ghost use Rattle.talker.specs.state.Talking.{BeginsSource, CanBegin, HasPackets, IsPacketOfSource, IsSentFrom, IsSource, plan_in, stream_in};
 ghost use Rattle.talker.specs.state.Turns.{IsTurnOf};
 
 use crate::turn::Turn;
@@ -30,8 +29,7 @@ impl<'a> Source<'a> {
     /// instant 2^32 seconds.
     #[tactic(auto, using(talk_audio::proofs::FormatLemmas::audio_found, crate::proofs::TalkLemmas::none_late), unfolding(crate::specs::Faults::fault_of))]
     pub fn of(alloc: Global, plan: TalkPlan, input: &'a [u8]) -> Result<Self, TalkFault>
-        requires plan { IsPlan plan }
-        requires limit { length input.now ≤ most_input }
+        requires { CanBegin plan input.now }
         ensures { BeginsSource plan input.now result }
     {
         match plan.kind {

@@ -12,7 +12,7 @@ ghost use Rattle.talker.specs.Talking.{gone_on};
 ghost use Rattle.talker.specs.state.Talking.{IsClockBeside, IsClockFirst, stream_in};
 ghost use Rattle.talk_clock.specs.Streams.{IsClockStream, clocks_of};
 ghost use Rattle.talker.specs.Turns.{IsTurn, frame_in};
-ghost use Rattle.talker.specs.state.Turns.{IsLent, IsSending, IsTurnOf, SendsPacket, turn_frame};
+ghost use Rattle.talker.specs.state.Turns.{IsLent, IsTurnOf, SendsInto, SendsPacket, turn_frame};
 
 use crate::sent::Sent;
 use crate::source::Source;
@@ -243,8 +243,7 @@ fn frame_memory(alloc: Global) -> Result<Vec<u8>, NoMemory>
 /// Writes the frame of a turn.
 #[inline(always)]
 fn write_frame(source: &Source<'_>, clock: &Option<ClockStream>, turn: Turn, out: &mut [u8])
-    requires sending { IsSending source.now clock.now turn }
-    requires room { length out.old ≡ turn.size }
+    requires { SendsInto source.now clock.now turn turn.size out.old }
     ensures { out.new ≡ (turn_frame (stream_in source.now) turn).bytes }
 {
     if turn.clock {
@@ -258,8 +257,7 @@ fn write_frame(source: &Source<'_>, clock: &Option<ClockStream>, turn: Turn, out
 /// Writes the frame of a turn at the start of a slice.
 #[inline(always)]
 fn write_front(source: &Source<'_>, clock: &Option<ClockStream>, turn: Turn, out: &mut [u8])
-    requires sending { IsSending source.now clock.now turn }
-    requires room { length out.old ≡ 1518 }
+    requires { SendsInto source.now clock.now turn 1518 out.old }
     ensures { take turn.size out.new ≡ (turn_frame (stream_in source.now) turn).bytes }
 {
     write_frame(source, clock, turn, &mut out[..turn.size]);

@@ -66,6 +66,16 @@ pub record Takes (taken : Record) (old new : ListenState) (result : Result Unit 
   pub plan : new.plan ≡ old.plan
   pub still_open : is_closed new ≡ false
 
+-- the talker can send the delivered packet, and giving its record to the listener is permitted
+pub record CanDeliver (talker : Talking) (listener : ListenState) (delivery : ℤ × ℕ) : Type 0 where
+  pub deliverable : IsDeliverable talker delivery
+  pub ready : IsReady listener
+
+-- The listener was given the record of a delivery, or there was no memory for this record. The talker is unchanged.
+pub record Delivers (from to : Talking) (delivery : ℤ × ℕ) (old new : ListenState) (result : Result Unit WantOfMemory) : Type 0 where
+  pub takes : Takes (captured (stream_of from.plan from.input) delivery) old new result
+  pub talker : to ≡ from
+
 -- ---- what was shown
 
 -- how many items a listener has shown

@@ -1,6 +1,6 @@
 -- Only private functions and proofs use these definitions. The packets of a plan, each with its
 -- samples.
-use Rattle.std.specs.Prelude.{◌≡◌, ◌-◌, length, ℕ, ℤ, ◌+◌, ◌*◌, List, [], ◌∷◌, ◌++◌, take, drop}
+use Rattle.std.specs.Prelude.{◌≡◌, ◌-◌, length, ℕ, ℤ, ◌+◌, ◌*◌, ◌≤◌, List, [], ◌∷◌, ◌++◌, take, drop}
 use Rattle.avtp_base.specs.Octets.{flag}
 use Rattle.avtp_header.specs.declared.header.StreamHeader.{StreamHeader}
 use Rattle.byteorder.specs.Endian.{big_bytes}
@@ -8,7 +8,7 @@ use Rattle.aaf_format.specs.Aaf.{frame_size}
 use Rattle.iec61883_format.specs.Iec.{block_size}
 use Rattle.talk_audio.specs.declared.am824.Am824Format.{Am824Format}
 use Rattle.talk_audio.specs.declared.pcm.PcmFormat.{PcmFormat}
-use Rattle.talk_audio.specs.Streams.{IsAm824, IsPcmStream, IsSentOf, headers_of, samples_size}
+use Rattle.talk_audio.specs.Streams.{IsAm824, IsPcm, IsPcmStream, IsSentOf, headers_of, samples_size}
 use Rattle.talk_audio.specs.declared.audio.AudioStream.{AudioStream}
 use Rattle.talk_plan.specs.declared.plan.TalkPlan.{TalkPlan}
 use Rattle.talk_plan.specs.declared.plan.TalkKind.{TalkKind}
@@ -54,3 +54,27 @@ pub record IsBlockPacket (am824 : Am824Format) (plan : TalkPlan) (n : ℕ) (bloc
 pub record IsSentInto (stream : AudioStream) (n : ℕ) (arrival : ℤ) (out : List ℕ) : Type 0 where
   pub sent : IsSentOf stream n arrival
   pub room : length out ≡ headers_of stream + samples_size stream
+
+-- packet n of the stream is sent at `arrival`; `samples` has the length of a packet's samples, and `out` has the length
+-- of a frame
+pub record TakesSamples (stream : AudioStream) (n : ℕ) (arrival : ℤ) (samples out : List ℕ) : Type 0 where
+  pub frame : IsSentInto stream n arrival out
+  pub whole : length samples ≡ samples_size stream
+
+-- packet n of the stream is sent at `arrival`; `rest` is not longer than a packet's samples, and `out` has the length of
+-- a frame
+pub record TakesRest (stream : AudioStream) (n : ℕ) (arrival : ℤ) (rest out : List ℕ) : Type 0 where
+  pub frame : IsSentInto stream n arrival out
+  pub part : length rest ≤ samples_size stream
+
+-- `pcm` holds the sample format of a valid plan of PCM
+pub record IsPcmOf (pcm : PcmFormat) (plan : TalkPlan) : Type 0 where
+  pub valid : IsAudioPlan plan
+  pub format : IsPcm pcm plan
+
+-- `size` bytes at offset `at` of a packet's header are within its first twelve bytes; `headers` has the length of both
+-- headers of a frame, and `out` has the length of a frame with these samples
+pub record CanPatch (headers : List ℕ) (at size : ℕ) (samples out : List ℕ) : Type 0 where
+  pub room : length out ≡ 42 + length samples
+  pub whole : length headers ≡ 42
+  pub within : at + size ≤ 12

@@ -1,15 +1,15 @@
 -- Only private functions and proofs use these definitions. A walk over the NAL units of a byte stream.
-use Rattle.std.specs.Prelude.{◌≡◌, ℕ, zero, suc, ◌+◌, ◌-◌, ◌<◌, ◌≤◌, Bool, false, not, ◌&&◌, ◌||◌, nat_lt, if◌then◌else◌, List, length, drop}
+use Rattle.std.specs.Prelude.{◌≡◌, ℕ, zero, suc, ◌+◌, ◌-◌, ◌<◌, ◌≤◌, ◌*◌, Bool, false, not, ◌&&◌, ◌||◌, nat_lt, if◌then◌else◌, List, length, take, drop}
 use Rattle.cvf_format.specs.AnnexB.{nal_units, units_from}
 use Rattle.talk_video.specs.declared.units.NalUnit.{NalUnit}
 use Rattle.talk_video.specs.declared.units.Units.{Units}
 use Rattle.avtp_base.specs.Octets.{flag}
 use Rattle.talk_video.specs.AccessUnits.{begins, begun_before, has_slice, is_sliced, may_begin}
 use Rattle.talk_video.specs.Fragments.{packets_before, packets_for, Place, place_of}
-use Rattle.talk_video.specs.Streams.{IsPacketOfVideo, unit_in}
+use Rattle.talk_video.specs.Streams.{IsInside, IsPacketOfVideo, unit_in}
 use Rattle.talk_video.specs.Units.{most_packets}
 use Rattle.talk_video.specs.declared.video.VideoStream.{VideoStream}
-use Rattle.talk_plan.specs.Plan.{most_input}
+use Rattle.talk_plan.specs.Plan.{IsVideoPlan, most_input}
 
 -- how many packets precede the access unit of unit i - 1; 0 if i is 0
 abbrev pub packets_behind : List ℕ → List (ℕ × ℕ) → ℕ → ℕ
@@ -30,6 +30,11 @@ pub record IsWalk (bytes : List ℕ) (u : Units) : Type 0 where
   pub few_begun : u.begun ≤ u.at
   pub few_packets : u.packets ≤ u.at
   pub order : u.before ≤ u.packets
+
+-- the walk can pass `unit`, which is within the byte stream
+pub record CanPass (bytes : List ℕ) (u : Units) (unit : ℕ × ℕ) : Type 0 where
+  pub walk : IsWalk bytes u
+  pub inside : IsInside bytes unit
 
 -- `unit`, which follows the units that the walk has passed, begins a new access unit
 abbrev pub is_begun_by : List ℕ → Units → ℕ × ℕ → Bool
@@ -90,3 +95,13 @@ pub record IsFragmentAt (unit : NalUnit) (n : ℕ) : Type 0 where
   pub limit : unit.to ≤ most_input
   pub begun : unit.first ≤ n
   pub within : n < unit.first + packets_for (unit.from, unit.to)
+
+-- the plan of the stream is valid, and the number of an access unit is not too large
+pub record HasAccessUnit (v : VideoStream) (access_unit : ℕ) : Type 0 where
+  pub plan : IsVideoPlan v.plan
+  pub few : access_unit ≤ most_input
+
+-- `bytes` are fragment k of `rest`, the bytes of a unit after its first byte
+pub record IsFullPart (rest : List ℕ) (k : ℕ) (bytes : List ℕ) : Type 0 where
+  pub value : bytes ≡ take 1398 (drop (k * 1398) rest)
+  pub short : length bytes ≤ 1398

@@ -11,7 +11,7 @@ use Rattle.talker.specs.Faults.{fault_of}
 use Rattle.talker.specs.Journal.{Stream, stream_of}
 use Rattle.talk_clock.specs.Streams.{IsClockOf}
 use Rattle.talk_plan.specs.Ethernet.{packet_bytes}
-use Rattle.talk_plan.specs.Plan.{most_input}
+use Rattle.talk_plan.specs.Plan.{IsPlan, most_input}
 use Rattle.talk_audio.specs.Streams.{IsAudio}
 use Rattle.talk_video.specs.Streams.{IsVideo}
 
@@ -42,6 +42,11 @@ pub record IsSourceOf (plan : TalkPlan) (input : List ℕ) (source : Source) : T
   pub source_is : IsSource source
   pub plan_is : plan_in source ≡ plan
   pub input_is : input_in source ≡ input
+
+-- the plan is valid, and the input is not too long
+pub record CanBegin (plan : TalkPlan) (input : List ℕ) : Type 0 where
+  pub valid : IsPlan plan
+  pub limit : length input ≤ most_input
 
 -- `result` is the source of a plan and an input, or why there is none. If the plan or the input has a fault, the fault
 -- is returned, even if memory runs out.

@@ -1,6 +1,6 @@
 -- Only private functions and proofs use these definitions. What a talker sends next, before its frame
 -- is built.
-use Rattle.std.specs.Prelude.{◌≡◌, ℕ, ◌<◌, ◌≤◌, Bool, true, false, Option, length}
+use Rattle.std.specs.Prelude.{◌≡◌, ℕ, ◌<◌, ◌≤◌, Bool, true, false, List, Option, length}
 use Rattle.talker.specs.declared.turn.Turn.{Turn}
 use Rattle.talker.specs.Frames.{SentFrame, capture_style, clock_frame_of, frame_of, record_of, sent_frame}
 use Rattle.talker.specs.declared.sent.Sent.{Sent}
@@ -43,6 +43,11 @@ pub record IsSending (source : Source) (clock : Option ClockStream) (turn : Turn
   pub source_is : IsSource source
   pub clock_is : IsClockOf clock (plan_in source) (stream_in source).journal.times.packets
   pub sends : SendsPacket (stream_in source) turn
+
+-- `turn` sends a packet of the stream or of the clock of `source`, and `out` has `size` bytes
+pub record SendsInto (source : Source) (clock : Option ClockStream) (turn : Turn) (size : ℕ) (out : List ℕ) : Type 0 where
+  pub sending : IsSending source clock turn
+  pub room : length out ≡ size
 
 -- the lent frame is the frame of the turn; a capture can record the frame, and it has at most 1518 bytes
 pub record IsLent (s : Stream) (turn : Turn) (sent : Sent) : Type 0 where

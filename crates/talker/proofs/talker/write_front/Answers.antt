@@ -8,10 +8,10 @@ slice_bounds-write_frame-end-2 c =
     let within = turn_within c.args.source.now c.args.turn c.requires.sending.source_is c.requires.sending.sends in
     omega (arith, within, length-take c.args.turn.size c.args.out.now)
 
-pub write_frame-requires-clause-room : goal.write_frame-requires-clause-room
-write_frame-requires-clause-room c =
+pub write_frame-requires : goal.write_frame-requires
+write_frame-requires c =
     let within = turn_within c.args.source.now c.args.turn c.requires.sending.source_is c.requires.sending.sends in
-    omega (arith, within, length-take c.args.turn.size c.args.out.now)
+    record { sending = c.requires.sending; room = omega (arith, within, c.requires.room, length-take c.args.turn.size c.args.out.now) }
 
 pub slice_bounds-write_frame-end : goal.slice_bounds-write_frame-end
 slice_bounds-write_frame-end c =

@@ -1,4 +1,4 @@
-use Rattle.std.proofs.Common.{◌≡◌, ◌≤◌, length, refl, subst, sym, ap, take, List, ℕ, ◌∙◌, arith}
+use Rattle.std.proofs.Common.{◌≡◌, ◌≤◌, length, refl, subst, sym, ap, rules, take, List, ℕ, ◌∙◌, arith}
 use Rattle.std.proofs.lemmas.Grind.{common_steps}
 use Rattle.std.proofs.lemmas.Int.{ints}
 use mir.Val.{of_z, to_z}
@@ -13,14 +13,17 @@ use Rattle.talker.proofs.TalkLemmas.{source_is}
 use Rattle.talker.proofs.TurnLemmas.{framed, turn_early, turn_fits, turn_most}
 use Rattle.talker.proofs.talker.Talker.lend.Goals as goal
 
-pub write_front-requires-clause-sending : goal.write_front-requires-clause-sending
-write_front-requires-clause-sending c =
+pub write_front-requires : goal.write_front-requires
+write_front-requires c =
     let is = c.self.invariant in
     let source = c.self.inside.source in
     record {
-      source_is = is.source;
-      clock_is = subst (λ (n : ℕ). IsClockOf c.self.inside.clock (plan_in source) n) is.packets is.clock;
-      sends = rw (← c.self.view_is) at c.requires;
+      sending = record {
+        source_is = is.source;
+        clock_is = subst (λ (n : ℕ). IsClockOf c.self.inside.clock (plan_in source) n) is.packets is.clock;
+        sends = rw (← c.self.view_is) at c.requires;
+      };
+      room = search rules;
     }
 
 pub returns : goal.returns

@@ -5,8 +5,8 @@ use Rattle.talker.specs.state.Talking.{input_in, plan_in}
 use Rattle.talker.proofs.TurnLemmas.{sending, sent_next}
 use Rattle.talker.proofs.talker.Talker.write.Goals as goal
 
-pub write_frame-requires-clause-sending : goal.write_frame-requires-clause-sending
-write_frame-requires-clause-sending c =
+pub write_frame-requires : goal.write_frame-requires
+write_frame-requires c =
     let t : Talking = record {
       plan = plan_in c.self.inside.source;
       input = input_in
@@ -16,9 +16,12 @@ write_frame-requires-clause-sending c =
     let is = c.self.invariant in
     let source = c.self.inside.source in
     record {
-      source_is = is.source;
-      clock_is = subst (λ (n : ℕ). IsClockOf c.self.inside.clock (plan_in source) n) is.packets is.clock;
-      sends = (sending t c.args.turn (rw (← c.self.view_is) at c.requires.turn)).sends;
+      sending = record {
+        source_is = is.source;
+        clock_is = subst (λ (n : ℕ). IsClockOf c.self.inside.clock (plan_in source) n) is.packets is.clock;
+        sends = (sending t c.args.turn (rw (← c.self.view_is) at c.requires.turn)).sends;
+      };
+      room = c.requires.room;
     }
 
 pub returns : goal.returns
