@@ -1,5 +1,5 @@
 -- A sink, the text that is buffered for the sink, and how a printing call changes the sink and the text.
-use Rattle.std.specs.Prelude.{◌≡◌, List, ◌++◌, ℕ, Option, Result, MatchResult}
+use Rattle.std.specs.Prelude.{◌≡◌, List, [], ◌++◌, ℕ, Option, Result, MatchResult, OnOk}
 use Rattle.avtp_base.specs.Told.{append_known, Appends, Keeps}
 use Rattle.avtp_base.specs.declared.failed.Failed.{Failed}
 use Rattle.avtp_base.specs.Faults.{IsCounted}
@@ -40,5 +40,14 @@ pub record Prints (before after : SinkState) (waits waits' : List ℕ) (result :
 -- what it held before the call. The sink's count of faults rose if and only if the call failed.
 pub record PrintsPart (before after : SinkState) (waits waits' : List ℕ) (result : Result Unit Failed) (text : List ℕ) : Type 0 where
   pub written : WritesPrefix (written before.held waits) (written after.held waits') result text
+  pub grows : Grows before.held after.held
+  pub counted : IsCounted before.faults after.faults result
+
+-- A call wrote the buffered text to the sink, all of it unless the sink failed. All text that was written so far is
+-- unchanged. What the sink holds begins with what it held before the call. The sink's count of faults rose if and only
+-- if the call failed.
+pub record Flushes (before after : SinkState) (waits waits' : List ℕ) (result : Result Unit Failed) : Type 0 where
+  pub written : Keeps (written before.held waits) (written after.held waits')
+  pub none_waits : OnOk result (waits' ≡ [])
   pub grows : Grows before.held after.held
   pub counted : IsCounted before.faults after.faults result

@@ -2,8 +2,9 @@
 
 ghost use Rattle.std.specs.Prelude.{◌≡◌, ◌+◌, ◌-◌, ◌≤◌, ◌++◌, length, drop};
 ghost use Rattle.aaf_format.specs.Aaf.{aaf_shape};
-ghost use Rattle.avtp_text.specs.state.AafLines.{IsEndAlone, IsEnd, end_of};
+ghost use Rattle.avtp_text.specs.state.AafLines.{IsEndAlone, IsEnd, IsShortEnd};
 ghost use Rattle.avtp_text.specs.Pieces.{id_text, newline};
+ghost use Rattle.avtp_text.specs.state.Lines.{IsTextOf};
 ghost use Rattle.avtp_text.specs.Show.{aaf_content, frame_line};
 
 use crate::line::{LONGEST, Line};
@@ -31,33 +32,11 @@ struct AafEnd {
     data_length: u16,
 }
 
-impl AafEnd {
-    #[inline(always)]
-    fn of(view: &AafView<'_>) -> Self
-        ensures { result ≡ end_of (aaf_shape view.now) }
-    {
-        AafEnd {
-            tv: view.header.tv,
-            tu: view.header.tu,
-            mr: view.header.mr,
-            sparse: view.sparse,
-            evt: view.evt,
-            format: view.format,
-            nsr: view.nsr,
-            channels: view.channels,
-            depth: view.depth,
-            count: view.count,
-            data_length: view.header.data_length,
-        }
-    }
-}
-
 /// Puts the end of a line before the newline.
 #[tactic(auto, using(crate::proofs::Names::format_fits))]
 fn prepend_end(line: &mut Line, end: &AafEnd)
     requires { line.old ≡ newline }
-    ensures text { IsEnd end.now line.new }
-    ensures len { length line.new ≤ LONGEST_END }
+    ensures { IsShortEnd end.now line.new }
 {
     line.prepend_u32(" bytes ", end.data_length as u32);
     line.prepend_u32(" count ", end.count);
@@ -147,20 +126,9 @@ impl AafLine {
     /// The line's bytes.
     #[inline(always)]
     pub fn as_slice(&self) -> &[u8]
-        ensures text { result.now ≡ self.now.line }
-        ensures short { length result.now ≤ LONGEST }
+        ensures { IsTextOf self.now.line result.now }
     {
         self.line.as_slice()
-    }
-
-    #[inline(never)]
-    fn write_end(&mut self, end: AafEnd)
-        ensures { IsEndAlone self.new.line self.new.len self.new.end end }
-    {
-        self.line.restart();
-        prepend_end(&mut self.line, &end);
-        self.len = self.line.len();
-        self.end = end;
     }
 
     /// Keeps only the end of the line. If the end is not the text of `end`, writes the end anew.
@@ -171,7 +139,10 @@ impl AafLine {
         if self.end == end {
             self.line.keep_last(self.len);
         } else {
-            self.write_end(end);
+            self.line = Line::new();
+            prepend_end(&mut self.line, &end);
+            self.len = self.line.len();
+            self.end = end;
         }
     }
 
@@ -180,7 +151,19 @@ impl AafLine {
     pub fn write(&mut self, number: u64, arrival: i64, view: &AafView<'_>)
         ensures { self.new.line ≡ frame_line number arrival (aaf_content (aaf_shape view.now)) }
     {
-        self.leave_end(AafEnd::of(view));
+        self.leave_end(AafEnd {
+            tv: view.header.tv,
+            tu: view.header.tu,
+            mr: view.header.mr,
+            sparse: view.sparse,
+            evt: view.evt,
+            format: view.format,
+            nsr: view.nsr,
+            channels: view.channels,
+            depth: view.depth,
+            count: view.count,
+            data_length: view.header.data_length,
+        });
         self.id.set(view.header.stream_id);
         self.line.prepend_u32(" ts ", view.header.timestamp);
         self.line.prepend_u32(" seq ", view.header.seq as u32);

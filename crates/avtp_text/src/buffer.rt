@@ -1,10 +1,8 @@
 //! The one buffer through which all text goes.
 
-ghost use Rattle.std.specs.Prelude.{◌≡◌, ◌+◌, ◌≤◌, [], length, OnOk, IfOk};
-ghost use Rattle.avtp_base.specs.Told.{Keeps};
-ghost use Rattle.avtp_base.specs.Faults.{IsCounted};
-ghost use Rattle.avtp_text.specs.state.Moves.{Moves, TakesFront};
-ghost use Rattle.avtp_text.specs.Written.{written, Grows, Prints};
+ghost use Rattle.std.specs.Prelude.{◌≡◌, ◌≤◌, [], length, IfOk};
+ghost use Rattle.avtp_text.specs.state.Moves.{MakesRoom, MovesAll, TakesFront};
+ghost use Rattle.avtp_text.specs.Written.{Flushes, Prints};
 
 use crate::aaf_line::AafLine;
 use crate::sample_line::SampleLine;
@@ -58,8 +56,7 @@ fn write_out<S: Sink>(out: &mut S, bytes: &[u8]) -> usize
 #[tactic(auto, using(crate::proofs::Moved::written_moved, crate::proofs::Growth::grows_by))]
 #[inline(never)]
 fn flush<S: Sink>(buffer: &mut Buffer, out: &mut S) -> Result<(), Failed>
-    ensures moves { Moves (S.state out.old) (S.state out.new) buffer.old buffer.new result }
-    ensures none_waits { OnOk result (buffer.new ≡ []) }
+    ensures { MovesAll (S.state out.old) (S.state out.new) buffer.old buffer.new result }
 {
     let waiting = buffer.waiting().len();
     let taken = write_out(out, buffer.waiting());
@@ -75,8 +72,7 @@ fn flush<S: Sink>(buffer: &mut Buffer, out: &mut S) -> Result<(), Failed>
 #[inline(always)]
 pub(crate) fn make_room<S: Sink>(buffer: &mut Buffer, out: &mut S, len: usize) -> Result<(), Failed>
     requires { len ≤ ROOM }
-    ensures moves { Moves (S.state out.old) (S.state out.new) buffer.old buffer.new result }
-    ensures room { OnOk result (length buffer.new + len ≤ ROOM) }
+    ensures { MakesRoom (S.state out.old) (S.state out.new) buffer.old buffer.new result len }
 {
     if buffer.room() < len {
         return flush(buffer, out);
@@ -99,10 +95,7 @@ impl Text {
 
     /// Writes all buffered text to the sink. If the sink fails, the text that it has not taken stays buffered.
     pub fn flush<S: Sink>(&mut self, out: &mut S) -> Result<(), Failed>
-        ensures written { Keeps (written (S.state out.old).held self.old) (written (S.state out.new).held self.new) }
-        ensures none_waits { OnOk result (self.new ≡ []) }
-        ensures grows { Grows (S.state out.old).held (S.state out.new).held }
-        ensures counted { IsCounted (S.state out.old).faults (S.state out.new).faults result }
+        ensures { Flushes (S.state out.old) (S.state out.new) self.old self.new result }
     {
         flush(&mut self.buffer, out)
     }

@@ -2,7 +2,7 @@
 
 ghost use Rattle.std.specs.Prelude.{◌≡◌, ◌+◌, ◌*◌, ◌≤◌, ◌++◌, flat_map, length};
 ghost use Rattle.avtp_text.specs.Check.{counted, end_check_line, finding_start, findings_lines, found, malformed_line, packet_line, packet_start};
-ghost use Rattle.avtp_text.specs.state.Lines.{AppendsUpTo, Prepends};
+ghost use Rattle.avtp_text.specs.state.Lines.{AppendsUpTo, FitsFinding, Prepends};
 ghost use Rattle.avtp_text.specs.Written.{Prints};
 
 use crate::buffer::{ROOM, Text, make_room};
@@ -41,8 +41,7 @@ fn prepend_packet(line: &mut Line, number: u64, id: u64)
 impl Text {
     /// Appends the line of a finding in a packet if `is_found` is true. There must be room for the line.
     fn push_found(&mut self, number: u64, id: u64, is_found: bool, name: &str)
-        requires short { length name.now ≤ 8 }
-        requires room { length self.old + FINDING ≤ ROOM }
+        requires { FitsFinding self.old name.now }
         ensures { AppendsUpTo self.old self.new (flat_map (packet_line number id) (found is_found name.now)) FINDING }
     {
         if is_found {
@@ -56,8 +55,7 @@ impl Text {
     /// Appends the line of a finding with the number in `count`, or nothing if `count` is `None`. There must be room
     /// for the line.
     fn push_counted(&mut self, number: u64, id: u64, count: Option<u32>, label: &str)
-        requires short { length label.now ≤ 8 }
-        requires room { length self.old + FINDING ≤ ROOM }
+        requires { FitsFinding self.old label.now }
         ensures { AppendsUpTo self.old self.new (flat_map (packet_line number id) (counted count label.now)) FINDING }
     {
         if let Some(count) = count {

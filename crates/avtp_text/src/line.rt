@@ -4,7 +4,7 @@ ghost use Rattle.std.specs.Prelude.{◌≡◌, ◌+◌, ◌-◌, ◌*◌, ◌<�
 ghost use Rattle.std.specs.Fmt.{signed_decimal};
 ghost use Rattle.hex.specs.Hex.{encode_lower};
 ghost use Rattle.avtp_text.specs.Pieces.{newline, id_text, flag_text, refusal_text};
-ghost use Rattle.avtp_text.specs.state.Lines.{Prepends};
+ghost use Rattle.avtp_text.specs.state.Lines.{IsTextOf, Prepends};
 
 use crate::pairs::{write_bytes, write_hex};
 use avtp_base::Refusal;
@@ -56,22 +56,12 @@ impl Line {
         }
     }
 
-    /// Removes everything but the newline from the line.
-    #[inline(always)]
-    pub fn restart(&mut self)
-        ensures { self.new ≡ newline }
-    {
-        self.scratch[LONGEST - 1] = b'\n';
-        self.start = LONGEST - 1;
-    }
-
-    /// Keeps only the last `len` bytes of the line.
+    /// Keeps at most the last `len` bytes of the line.
     #[inline(always)]
     pub fn keep_last(&mut self, len: usize)
-        requires { len ≤ length self.old }
         ensures { self.new ≡ drop (length self.old - len) self.old }
     {
-        self.start += self.len() - len;
+        self.start += self.len().saturating_sub(len);
     }
 
     /// How many bytes the line has.
@@ -85,8 +75,7 @@ impl Line {
     /// The line's bytes.
     #[inline(always)]
     pub fn as_slice(&self) -> &[u8]
-        ensures text { result.now ≡ self.now }
-        ensures short { length result.now ≤ LONGEST }
+        ensures { IsTextOf self.now result.now }
     {
         &self.scratch[self.start..]
     }

@@ -2,11 +2,11 @@
 
 ghost use Rattle.std.specs.Prelude.{◌≡◌, ◌+◌, ◌*◌, ◌/◌, ◌<◌, ◌≤◌, ◌++◌, length};
 ghost use Rattle.hex.specs.Hex.{encode_lower};
-ghost use Rattle.avtp_text.specs.Listen.{batch_lines, capture_line, end_listen_line, flag_line, list_lines, reason_text, sample_bytes, sample_line, due_text, place_text, shown_lines};
+ghost use Rattle.avtp_text.specs.Listen.{batch_lines, capture_line, end_listen_line, flag_line, list_lines, reason_text, sample_line, due_text, place_text, shown_lines};
 ghost use Rattle.time_unfold.specs.Time.{IsInstant};
 ghost use Rattle.sample_schedule.specs.Instants.{IsInstantOf};
 ghost use Rattle.avtp_text.specs.Pieces.{newline};
-ghost use Rattle.avtp_text.specs.state.SampleLines.{packet_of};
+ghost use Rattle.avtp_text.specs.state.SampleLines.{HaveShortSize, IsSampleOf, IsShortSample, PrintsSample};
 ghost use Rattle.avtp_text.specs.state.Lines.{Prepends};
 ghost use Rattle.avtp_text.specs.Written.{Prints, PrintsPart};
 
@@ -69,10 +69,8 @@ fn print_sample<S: Sink>(
     j: u32,
     bytes: &[u8],
 ) -> Result<(), Failed>
-    requires short { length bytes.now ≤ SHORT }
-    requires size { length bytes.now ≡ line.old.size }
-    ensures prints { Prints (S.state out.old) (S.state out.new) buffer.old buffer.new result (due_text instant line.old.frame ++ place_text line.old.seq j ++ encode_lower bytes.now ++ newline) }
-    ensures packet { line.new ≡ line.old }
+    requires { IsShortSample line.old bytes.now }
+    ensures { PrintsSample (S.state out.old) (S.state out.new) buffer.old buffer.new result line.old line.new instant j bytes.now }
 {
     make_room(buffer, out, LONGEST)?;
     line.add_to(buffer, instant, j, bytes);
@@ -87,8 +85,7 @@ fn short_samples<S: Sink>(
     batch: &Batch,
     size: usize,
 ) -> Result<(), Failed>
-    requires short { size ≤ SHORT }
-    requires size { size ≡ length batch.now.bytes / batch.now.count }
+    requires { HaveShortSize batch.now size }
     ensures { PrintsPart (S.state out.old) (S.state out.new) buffer.old buffer.new result (batch_lines batch.now) }
 {
     let bytes = batch.bytes.as_slice();
@@ -184,8 +181,7 @@ impl Text {
         j: u32,
         bytes: &[u8],
     ) -> Result<(), Failed>
-        requires sample { j < batch.now.count }
-        requires bytes { bytes.now ≡ sample_bytes batch.now j }
+        requires { IsSampleOf batch.now j bytes.now }
         ensures { PrintsPart (S.state out.old) (S.state out.new) self.old self.new result (sample_line batch.now j) }
     {
         self.long_sample(out, batch.instant(j), batch.frame, batch.seq, j, bytes)
@@ -226,24 +222,19 @@ impl Text {
         Ok(())
     }
 
-    /// Prints the samples of a batch, one on each line.
-    fn batch<S: Sink>(&mut self, out: &mut S, batch: &Batch) -> Result<(), Failed>
-        ensures { PrintsPart (S.state out.old) (S.state out.new) self.old self.new result (batch_lines batch.now) }
-    {
-        let size = batch.bytes.as_slice().len() / batch.count as usize;
-        if size <= SHORT {
-            short_samples(&mut self.buffer, &mut self.sample, out, batch, size)
-        } else {
-            self.long_samples(out, batch, size)
-        }
-    }
-
     /// Prints an item that a schedule shows: the samples of a batch, or the reason for a flag.
     pub fn shown<S: Sink>(&mut self, out: &mut S, shown: &Shown) -> Result<(), Failed>
         ensures { PrintsPart (S.state out.old) (S.state out.new) self.old self.new result (shown_lines shown.now) }
     {
         match shown {
-            Shown::Present(batch) => self.batch(out, batch),
+            Shown::Present(batch) => {
+                let size = batch.bytes.as_slice().len() / batch.count as usize;
+                if size <= SHORT {
+                    short_samples(&mut self.buffer, &mut self.sample, out, batch, size)
+                } else {
+                    self.long_samples(out, batch, size)
+                }
+            }
             Shown::Flag { frame, seq, reason } => self.flag(out, *frame, *seq, *reason),
         }
     }

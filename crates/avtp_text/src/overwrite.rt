@@ -1,8 +1,8 @@
 //! Overwrites parts of a text that are at a known distance from the text's end.
 
-ghost use Rattle.std.specs.Prelude.{◌≡◌, ◌+◌, ◌*◌, ◌<◌, ◌≤◌, length, decimal};
+ghost use Rattle.std.specs.Prelude.{◌+◌, ◌*◌, ◌≤◌, length, decimal};
 ghost use Rattle.hex.specs.Hex.{encode_lower};
-ghost use Rattle.avtp_text.specs.state.Overwrites.{Overwrites};
+ghost use Rattle.avtp_text.specs.state.Overwrites.{HasEight, Overwrites, OverwritesDecimal};
 ghost use Rattle.avtp_text.specs.state.Pairs.{eight_digits};
 
 use crate::pairs::{write_bytes, write_eight_digits, write_hex};
@@ -11,8 +11,7 @@ use crate::pairs::{write_bytes, write_eight_digits, write_hex};
 /// after the digits.
 #[inline(always)]
 pub fn overwrite_eight_digits(text: &mut [u8], number: u32, behind: usize)
-    requires number { number < 100000000 }
-    requires room { 8 + behind ≤ length text.old }
+    requires { HasEight text.old number behind }
     ensures { Overwrites text.old text.new (eight_digits number) behind }
 {
     let end = text.len() - behind;
@@ -25,8 +24,7 @@ pub fn overwrite_eight_digits(text: &mut [u8], number: u32, behind: usize)
 #[inline(always)]
 pub fn overwrite_decimal(text: &mut [u8], number: u64, behind: usize) -> usize
     requires { length (decimal number) + behind ≤ length text.old }
-    ensures len { result ≡ length (decimal number) }
-    ensures overwrites { Overwrites text.old text.new (decimal number) behind }
+    ensures { OverwritesDecimal text.old text.new number behind result }
 {
     let end = text.len() - behind;
     if number < 10 {

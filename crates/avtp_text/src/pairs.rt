@@ -2,7 +2,7 @@
 
 ghost use Rattle.std.specs.Prelude.{◌≡◌, ◌+◌, ◌*◌, ◌/◌, ◌%◌, ◌<◌, ◌≤◌, length, set, slice_index};
 ghost use Rattle.hex.specs.Hex.{encode_lower, lower_digits};
-ghost use Rattle.avtp_text.specs.state.Pairs.{eight_digits};
+ghost use Rattle.avtp_text.specs.state.Pairs.{FitsEight, FitsPair, eight_digits};
 
 /// The two decimal digits of each number below 100.
 static DECIMAL: [u8; 200] =
@@ -15,8 +15,7 @@ static HEXADECIMAL: [u8; 512] =
 #[tactic(auto, using(crate::proofs::Tables::decimal_at))]
 #[inline(always)]
 fn write_decimal_pair(pair: u32, out: &mut [u8], at: usize)
-    requires pair { pair < 100 }
-    requires room { at + 2 ≤ length out.old }
+    requires { FitsPair pair out.old at }
     ensures { out.new ≡ set (set out.old at (48 + pair / 10)) (at + 1) (48 + pair % 10) }
 {
     let from = 2 * pair as usize;
@@ -28,8 +27,7 @@ fn write_decimal_pair(pair: u32, out: &mut [u8], at: usize)
 /// Writes a number as eight decimal digits, with leading zeros.
 #[inline(always)]
 pub fn write_eight_digits(number: u32, out: &mut [u8])
-    requires number { number < 100000000 }
-    requires room { length out.old ≡ 8 }
+    requires { FitsEight number out.old }
     ensures { out.new ≡ eight_digits number }
 {
     let high = number / 10_000;

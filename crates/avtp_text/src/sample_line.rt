@@ -5,7 +5,7 @@ ghost use Rattle.hex.specs.Hex.{encode_lower};
 ghost use Rattle.avtp_text.specs.Listen.{due_text, place_text};
 ghost use Rattle.avtp_text.specs.Pieces.{newline};
 ghost use Rattle.avtp_text.specs.SampleLines.{SamplePacket};
-ghost use Rattle.avtp_text.specs.state.SampleLines.{AddsSample, Fits, IsBehind, KnowsGaps, StartsAt, seen_as};
+ghost use Rattle.avtp_text.specs.state.SampleLines.{AddsSample, Fits, IsWholeLine, KnowsGaps, StartsAt, SuitsSample, seen_as};
 
 use crate::line::{LONGEST, Line};
 use crate::overwrite::{overwrite_decimal, overwrite_eight_digits, overwrite_hex};
@@ -73,8 +73,7 @@ struct Behind {
 #[tactic(auto, unfolding(crate::specs::state::SampleLines::behind_instant))]
 fn whole_line(instant: i64, frame: u64, seq: u8, j: u32, bytes: &[u8]) -> (Line, Behind)
     requires { length bytes.now ≤ SHORT }
-    ensures text { result.0 ≡ due_text instant frame ++ place_text seq j ++ encode_lower bytes.now ++ newline }
-    ensures behind { IsBehind result.1 frame seq (decimal j) (encode_lower bytes.now) }
+    ensures { IsWholeLine result.0 result.1 instant frame seq j bytes.now }
 {
     let mut line = Line::new();
     line.prepend_hex(bytes);
@@ -210,9 +209,7 @@ impl SampleLine {
     /// if the line is short enough.
     #[inline(never)]
     fn add_anew(&mut self, buffer: &mut Buffer, instant: i64, j: u32, bytes: &[u8])
-        requires short { length bytes.now ≤ SHORT }
-        requires size { length bytes.now ≡ self.old.size }
-        requires room { length buffer.old + LONGEST ≤ 65536 }
+        requires { SuitsSample self.old buffer.old bytes.now }
         ensures { AddsSample self.old self.new buffer.old buffer.new instant j bytes.now }
     {
         let (line, behind) = whole_line(instant, self.frame, self.seq, j, bytes);
@@ -233,9 +230,7 @@ impl SampleLine {
     /// Appends the line of a sample to a buffer. The buffer must have room for a line.
     #[inline(always)]
     pub fn add_to(&mut self, buffer: &mut Buffer, instant: i64, j: u32, bytes: &[u8])
-        requires short { length bytes.now ≤ SHORT }
-        requires size { length bytes.now ≡ self.old.size }
-        requires room { length buffer.old + LONGEST ≤ 65536 }
+        requires { SuitsSample self.old buffer.old bytes.now }
         ensures { AddsSample self.old self.new buffer.old buffer.new instant j bytes.now }
     {
         let Some(low) = low_of(self.line.from, self.line.numbers, instant, j) else {

@@ -1,28 +1,26 @@
 //! The lines of `talk`: what was sent, or why nothing was.
 
-ghost use Rattle.std.specs.Prelude.{◌≡◌, ◌+◌, ◌≤◌, ◌++◌, length};
+ghost use Rattle.std.specs.Prelude.{◌≡◌};
 ghost use Rattle.avtp_text.specs.Talk.{fault_text, talk_input_line, talk_line};
-ghost use Rattle.avtp_text.specs.state.Lines.{Prepends};
 ghost use Rattle.avtp_text.specs.Written.{Prints};
 
 use crate::buffer::Text;
-use crate::line::{LONGEST, Line};
+use crate::line::Line;
 use avtp_base::Failed;
 use avtp_files::Sink;
 use talker::TalkFault;
 
-/// Prepends a fault to the line.
-fn prepend_fault(line: &mut Line, fault: TalkFault)
-    requires { 10 + length line.old ≤ LONGEST }
-    ensures { Prepends line.old line.new (fault_text fault) 10 }
+/// The name of a fault.
+fn fault_name(fault: TalkFault) -> &'static str
+    ensures { result.now ≡ fault_text fault }
 {
     match fault {
-        TalkFault::Frames => line.prepend("frames"),
-        TalkFault::StartCode => line.prepend("start_code"),
-        TalkFault::NalType => line.prepend("nal_type"),
-        TalkFault::Packets => line.prepend("packets"),
-        TalkFault::Arrival => line.prepend("arrival"),
-        TalkFault::Memory => line.prepend("memory"),
+        TalkFault::Frames => "frames",
+        TalkFault::StartCode => "start_code",
+        TalkFault::NalType => "nal_type",
+        TalkFault::Packets => "packets",
+        TalkFault::Arrival => "arrival",
+        TalkFault::Memory => "memory",
     }
 }
 
@@ -39,12 +37,12 @@ impl Text {
     }
 
     /// Prints why an input cannot be made into a stream.
-    #[tactic(auto, unfolding(crate::specs::Talk::talk_input_line))]
+    #[tactic(auto, using(crate::proofs::Names::fault_fits), unfolding(crate::specs::Talk::talk_input_line))]
     pub fn talk_input<S: Sink>(&mut self, out: &mut S, fault: TalkFault) -> Result<(), Failed>
         ensures { Prints (S.state out.old) (S.state out.new) self.old self.new result (talk_input_line fault) }
     {
         let mut line = Line::new();
-        prepend_fault(&mut line, fault);
+        line.prepend(fault_name(fault));
         line.prepend("talk input: ");
         self.print(out, line.as_slice())
     }

@@ -1,7 +1,7 @@
 -- The command lines of each command, and their offences.
 use Rattle.std.proofs.Common.{Contains, ◌↔◌, ◌-◌, ◌*◌, ◌≤◌, IsTrue, Bool, ◌≡◌, ◌≢◌, ℕ, zero, suc, ◌+◌, ◌<◌, ◌^◌, ◌⊎◌, inl, inr, true, false, List, [], ◌∷◌, ◌++◌, flat_map, length, take, drop, Option, Some, None, slice_get, get_or, IfSome, arith, sym, subst, ap, ◌∙◌, refl, append_assoc, length-append, codes, string_bytes, String, pos}
 use Rattle.option_words.specs.Operands.{most_packets, AreOperands}
-use Rattle.std.specs.Prelude.{Result, Ok, Err, IfOk, IfErr, IsOkAnd, IsErrAnd, MatchOption}
+use Rattle.std.specs.Prelude.{Result, Ok, Err, IsOkAnd, IsErrAnd, MatchOption}
 use Rattle.std.specs.Str.{bytes_eq}
 use Rattle.std.specs.declared.alloc.Global.{Global}
 use Rattle.std.proofs.lemmas.Bool.{cases_Bool}

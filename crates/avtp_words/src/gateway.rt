@@ -1,7 +1,7 @@
 //! The command `gateway`: which stream of a capture to convert to the other format.
 
-ghost use Rattle.std.specs.Prelude.{◌≡◌, ◌∷◌, codes, Some, take};
-ghost use Rattle.avtp_words.specs.Grammar.{SaysGateway, gateway_form, turning_of, gateway_format_name};
+ghost use Rattle.std.specs.Prelude.{◌≡◌, ◌∷◌, codes, Some};
+ghost use Rattle.avtp_words.specs.Grammar.{gateway_format_name};
 ghost use Rattle.avtp_words.specs.state.Answers.{Asks, Reads};
 ghost use Rattle.option_words.specs.Values.{Finds, value_after};
 ghost use Rattle.option_words.specs.Word.{texts};

@@ -4,7 +4,7 @@ ghost use Rattle.std.specs.Prelude.{◌≡◌, ◌↔◌, Contains, IsTrue, slic
 ghost use Rattle.std.specs.List.{find, list_any, position};
 ghost use Rattle.std.specs.Option.{option_copied};
 ghost use Rattle.std.specs.Str.{bytes_eq};
-ghost use Rattle.option_words.specs.Options.{IsValue, stands_alone as stands_alone_of};
+ghost use Rattle.option_words.specs.Options.{IsValue};
 ghost use Rattle.option_words.specs.state.Answers.{EndsOrStops, FindsValue};
 ghost use Rattle.option_words.specs.Tables.{are_sound, rows_of};
 ghost use Rattle.option_words.specs.Values.{value_after};

@@ -1,6 +1,6 @@
 //! The spread of values: the least, the greatest, and percentiles from a histogram.
 
-ghost use Rattle.std.specs.Prelude.{◌≡◌, ◌≤ℤ◌, ◌<◌, ◌≤◌, ◌^◌, ◌+◌, ◌-◌, ◌*◌, ◌-ℤ◌, pos, ◌↔◌, IsNone, IfSome, OnOk, IfOk, ℤ, List, [], ◌∷◌, ◌++◌, length, get_or, set, sum, take, replicate, min};
+ghost use Rattle.std.specs.Prelude.{◌≡◌, ◌<◌, ◌≤◌, ◌^◌, ◌+◌, ◌-◌, ◌*◌, ◌-ℤ◌, pos, OnOk, IfOk, ℤ, List, [], ◌∷◌, ◌++◌, length, get_or, set, sum, take, replicate, min};
 ghost use Rattle.value_spread.specs.Spreads.{TellsOf, TellsPercentile, edge, first_in, most_values, rank, side};
 ghost use Rattle.value_spread.specs.state.Places.{HasPlace, HoldsRank, InBucket, Widens};
 

@@ -11,3 +11,13 @@ pub record Prepends (old new piece : List ℕ) (most : ℕ) : Type 0 where
 pub record AppendsUpTo (old new added : List ℕ) (most : ℕ) : Type 0 where
   pub text : new ≡ old ++ added
   pub len : length new ≤ length old + most
+
+-- `slice` is the line, which has at most 256 bytes
+pub record IsTextOf (line slice : List ℕ) : Type 0 where
+  pub text : slice ≡ line
+  pub short : length slice ≤ 256
+
+-- a name of at most 8 bytes, and the room that the line of a finding with this name needs after the text `old`
+pub record FitsFinding (old name : List ℕ) : Type 0 where
+  pub short : length name ≤ 8
+  pub room : length old + 80 ≤ 65536

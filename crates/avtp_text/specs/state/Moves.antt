@@ -1,5 +1,5 @@
 -- Only private functions and proofs use these definitions. Bytes that move from the buffer to a sink.
-use Rattle.std.specs.Prelude.{◌≡◌, ℕ, ◌≤◌, ◌<◌, List, length, take, Result}
+use Rattle.std.specs.Prelude.{◌≡◌, ℕ, ◌+◌, ◌≤◌, ◌<◌, List, [], length, take, Result, OnOk}
 use Rattle.avtp_base.specs.Told.{Appends, Keeps}
 use Rattle.avtp_base.specs.declared.failed.Failed.{Failed}
 use Rattle.avtp_base.specs.Faults.{IsCounted, Rose}
@@ -21,3 +21,13 @@ pub record Moves (before after : SinkState) (waits waits' : List ℕ) (result : 
   pub written : Keeps (written before.held waits) (written after.held waits')
   pub grows : Grows before.held after.held
   pub counted : IsCounted before.faults after.faults result
+
+-- Buffered bytes may have moved to the sink. At `Ok`, none is left.
+pub record MovesAll (before after : SinkState) (waits waits' : List ℕ) (result : Result Unit Failed) : Type 0 where
+  pub moves : Moves before after waits waits' result
+  pub none_waits : OnOk result (waits' ≡ [])
+
+-- Buffered bytes may have moved to the sink. At `Ok`, the buffer has room for `len` bytes.
+pub record MakesRoom (before after : SinkState) (waits waits' : List ℕ) (result : Result Unit Failed) (len : ℕ) : Type 0 where
+  pub moves : Moves before after waits waits' result
+  pub room : OnOk result (length waits' + len ≤ 65536)

@@ -4,4 +4,4 @@ use Rattle.avtp_text.proofs.buffer.Text.talk_input.Goals as goal
 pub returns : goal.returns
 unfolding talk_input_line
 returns g c =
-    rw (c.as_slice.ensures.text, c.prepend.ensures.text, c.prepend_fault.ensures.text, c.new-line.ensures) at c.print.ensures
+    rw (c.as_slice.ensures.text, c.prepend-2.ensures.text, c.prepend.ensures.text, c.fault_name.ensures, c.new-line.ensures) at c.print.ensures
