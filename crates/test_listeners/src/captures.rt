@@ -2,81 +2,49 @@
 
 use avtp_base::NoMemory;
 use std::alloc::Global;
-use vectors_avtp::{changed, vector};
-
-/// The kind of test vector that a packet is made from.
-#[derive(Clone, Copy)]
-pub enum Format {
-    Audio,
-    Blocks,
-    Video,
-    Clock,
-}
-
-/// A packet as it is captured, in a frame of its own. The packet is made from the packet of a test vector by changing
-/// some bytes.
-#[derive(Clone, Copy)]
-pub struct Captured {
-    pub format: Format,
-    /// When the packet was captured, in nanoseconds.
-    pub arrival: u64,
-    pub seq: u8,
-    /// The packet's timestamp, or `None` if it is not valid. A packet of a stream carries the low 32 bits of this
-    /// number.
-    pub stamp: Option<u64>,
-    /// The bytes of the packet that are changed, as pairs of an offset and a value.
-    pub changes: &'static [(usize, u8)],
-    /// At most this many bytes of the frame are captured. `zeros` is the number of zero bytes that follow the captured
-    /// bytes.
-    pub len: usize,
-    pub zeros: usize,
-}
-
-/// The packet of the first vector.
-pub const AUDIO: Captured = Captured {
-    format: Format::Audio,
-    arrival: 1_000_000_000,
-    seq: 0,
-    stamp: Some(1_002_000_000),
-    changes: &[],
-    len: 2_000,
-    zeros: 0,
-};
+use std::test::Fail;
+use vectors_avtp::bytes_of;
 
 const SECOND: u64 = 1_000_000_000;
 
-fn packet_of(alloc: Global, row: &Captured) -> Result<Vec<u8>, NoMemory> {
-    let [s0, s1, s2, s3, s4, s5, s6, s7] = row.stamp.unwrap_or(0).to_be_bytes();
-    let stream = [
-        (1, if row.stamp.is_some() { 0x81 } else { 0x80 }),
-        (2, row.seq),
-        (12, s4),
-        (13, s5),
-        (14, s6),
-        (15, s7),
-    ];
-    let clock = [
-        (2, row.seq),
-        (20, s0),
-        (21, s1),
-        (22, s2),
-        (23, s3),
-        (24, s4),
-        (25, s5),
-        (26, s6),
-        (27, s7),
-    ];
-    let packet = match row.format {
-        Format::Audio => {
-            let capture = vector(alloc, 1)?;
-            let packet = Vec::from_slice(alloc, capture.get(58..).unwrap_or(&[]))?;
-            changed(packet, &stream, 80, 0)?
+/// Packets that rows name. `stamped` has six data blocks, numbered from 12, and block 16 is stamped. `next` has the
+/// next six data blocks, and none of them is stamped. `crf` and `tock` are packets of the clock, 96 events apart.
+/// `first`, `middle` and `last` are the fragments of a unit of type 5, each with two bytes of the unit.
+const NAMED: &str = "\
+second = aaf at:1000125000 seq:1 ts:1002125000
+third = aaf at:1000250000 seq:2 ts:1002250000
+stamped = iec at:4997916666 ts:5000000000 27=0c
+next = iec at:4998041666 seq:1 1=80 12=00000000 27=12
+between = crf at:1002100000 seq:1 tick:1004000000
+tock = crf at:1002200000 seq:1 tick:1004000000
+clocked = aaf at:1002000000 ts:1004000000
+clocked-second = aaf at:1002125000 seq:1 ts:1004125000
+first = h264 28=7c850001
+middle = h264 seq:1 28=7c050002
+last = h264 seq:2 28=7c450003
+long-first = h264 20=ffff 28=7c85 len=30 len=65559
+long-middle = h264 seq:1 20=ffff 28=7c05 len=30 len=65559";
+
+/// The words of a packet that rows name, or else the name itself.
+fn named(name: &str) -> &str {
+    for line in NAMED.lines() {
+        if let Some((known, words)) = line.split_once(" = ")
+            && known == name
+        {
+            return words;
         }
-        Format::Blocks => changed(vector(alloc, 2)?, &stream, 80, 0)?,
-        Format::Video => changed(vector(alloc, 3)?, &stream, 80, 0)?,
-        Format::Clock => changed(vector(alloc, 4)?, &clock, 80, 0)?,
-    };
-    changed(packet, row.changes, 80, 0)
+    }
+    name
+}
+
+/// The text after `name` in the first word that begins with `name`.
+pub fn after<'a>(words: &'a str, name: &str) -> Option<&'a str> {
+    for word in words.split_whitespace() {
+        if let Some(rest) = word.strip_prefix(name) {
+            return Some(rest);
+        }
+    }
+    None
 }
 
 /// Adds the record of a frame to a capture.
@@ -90,18 +58,51 @@ fn put(bytes: &mut Vec<u8>, arrival: u64, frame: &[u8]) -> Result<(), NoMemory> 
     Ok(())
 }
 
-/// The capture of these packets, with the file header and the Ethernet header of the first vector.
-pub fn capture(alloc: Global, rows: &[Captured]) -> Result<Vec<u8>, NoMemory> {
-    let one = vector(alloc, 1)?;
-    let mut bytes = Vec::from_slice(alloc, one.get(..24).unwrap_or(&[]))?;
-    for row in rows {
-        let mut frame = Vec::from_slice(alloc, one.get(40..58).unwrap_or(&[]))?;
-        frame.extend_from_slice(&packet_of(alloc, row)?)?;
-        put(
-            &mut bytes,
-            row.arrival,
-            &changed(frame, &[], row.len, row.zeros)?,
-        )?;
+/// Adds the records of a packet to a capture.
+fn put_packet(alloc: Global, bytes: &mut Vec<u8>, words: &str) -> Result<(), Fail> {
+    let mut packet = String::new(alloc);
+    for word in words.split_whitespace() {
+        let part = match word.split_once(':') {
+            None => format!(in alloc; " {word}")?,
+            Some(("ts", stamp)) => {
+                format!(in alloc; " 12={:08x}", stamp.parse::<u64>()? % (1 << 32))?
+            }
+            Some(("tick", stamp)) => format!(in alloc; " 20={:016x}", stamp.parse::<u64>()?)?,
+            Some(_) => String::new(alloc),
+        };
+        packet.push_str(part.as_str())?;
+    }
+    let arrival = after(words, "at:").unwrap_or("1000000000").parse()?;
+    let seq: u64 = after(words, "seq:").unwrap_or("0").parse()?;
+    let copies: u64 = after(words, "copies:").unwrap_or("1").parse()?;
+    for copy in 0..copies {
+        let seq = seq.wrapping_add(copy) % 256;
+        let mut frame = bytes_of(alloc, "frame len=18")?;
+        frame.extend_from_slice(&bytes_of(
+            alloc,
+            format!(in alloc; "{packet} 2={seq:02x}")?.as_str(),
+        )?)?;
+        frame.truncate(after(words, "cut:").unwrap_or("100000").parse()?);
+        put(bytes, arrival, &frame)?;
+    }
+    Ok(())
+}
+
+/// The capture of these packets, which commas separate. Each packet has a frame of its own. A packet has the words of
+/// `vectors_avtp::bytes_of`, and these words:
+///
+/// - `at:1000125000` is when the packet was captured, in nanoseconds. If it is left out, this is 1,000,000,000.
+/// - `seq:1` is the packet's sequence number. If it is left out, this is 0.
+/// - `ts:1002125000` is the timestamp of a packet of the stream, which carries the low 32 bits of this number.
+/// - `tick:1004000000` is the timestamp of a packet of the clock.
+/// - `cut:17` is the most bytes of the frame that are captured.
+/// - `copies:63` sends the packet 63 times, with one sequence number after the other.
+pub fn capture(alloc: Global, packets: &str) -> Result<Vec<u8>, Fail> {
+    let mut bytes = bytes_of(alloc, "pcap len=24")?;
+    for packet in packets.split(", ") {
+        let (name, words) = packet.split_once(' ').unwrap_or((packet, ""));
+        let words = format!(in alloc; "{} {words}", named(name))?;
+        put_packet(alloc, &mut bytes, words.as_str())?;
     }
     Ok(bytes)
 }

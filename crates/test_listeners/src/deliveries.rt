@@ -1,62 +1,88 @@
-//! Deliveries over a bad network, worked out by hand and by another program.
+//! Deliveries over a bad network, and what becomes of them. They were worked out by hand and by another program.
 
-use soak_run::{Noise, soak_deliveries};
+use soak_run::{Noise, soak, soak_deliveries};
 use std::test::Fail;
+use vectors_avtp::row_of;
 
 /// Seeds, and the first numbers that are drawn from each seed. A seed is taken modulo 2^31.
-const DRAWS: [(u64, &[u32]); 3] = [
-    (1, &[16_838, 5_758]),
-    (2_147_483_649, &[16_838, 5_758]),
-    (2, &[908, 22_817, 10_239, 12_914]),
-];
+const DRAWS: &str = "\
+1 => 16838 5758
+2147483649 => 16838 5758
+2 => 908 22817 10239 12914";
 
 #[test]
-fn numbers_are_drawn_from_a_seed(rt: HostRuntime) {
-    for row in &DRAWS {
-        let mut noise = Noise::new(row.0);
-        for number in row.1 {
-            assert_eq!(rt; noise.draw(), *number, "seed {}", row.0);
+fn numbers_are_drawn_from_a_seed(rt: HostRuntime) -> Result<(), Fail> {
+    for line in DRAWS.lines() {
+        let (seed, wanted) = row_of(line)?;
+        let mut noise = Noise::new(seed.parse()?);
+        let mut found = String::new(rt.alloc());
+        for _ in wanted.split(' ') {
+            let number = noise.draw();
+            found.push_str(&format!(in rt.alloc(); "{number} ")?)?;
         }
+        assert!(rt; found.trim() == wanted, "seed {seed}: {found}");
     }
+    Ok(())
 }
 
-/// How many packets are sent, and how many copies of them are delivered. The third value is the index of a copy. The
-/// list has an entry for each of some copies in a row: the copy's arrival, and the number of the copy's packet. The
-/// first of these copies is at the index in the third value.
-const ROWS: [(u32, usize, usize, &[(i64, u64)]); 6] = [
-    (0, 0, 0, &[]),
-    (1, 1, 0, &[(1_002_480_000, 0)]),
-    (2, 2, 0, &[(1_001_320_000, 0), (1_002_125_000, 1)]),
-    // the seventh and the tenth packet are lost, and the last packet is delivered twice
-    (
-        11,
-        10,
-        0,
-        &[
-            (1_000_960_000, 0),
-            (1_001_130_000, 2),
-            (1_001_220_000, 4),
-            (1_001_865_000, 5),
-            (1_001_885_000, 1),
-            (1_001_895_000, 3),
-            (1_002_090_000, 10),
-            (1_002_810_000, 10),
-            (1_002_840_000, 8),
-            (1_002_995_000, 7),
-        ],
-    ),
-    // if copies arrive at the same time, they are in the order of their packets' numbers
-    (25, 22, 8, &[(1_002_440_000, 0), (1_002_440_000, 16)]),
-    (1_000, 1_002, 1_001, &[(1_126_485_000, 993)]),
-];
+/// How many packets are sent, the index of a copy, and how many copies are delivered. Then come some of the copies in a
+/// row, from the copy at that index on: each copy's arrival, and the number of its packet.
+const DELIVERIES: &str = "\
+0 0 => 0:
+1 0 => 1: 1002480000/0,
+2 0 => 2: 1001320000/0, 1002125000/1,
+// the seventh and the tenth packet are lost, and the last packet is delivered twice
+11 0 => 10: 1000960000/0, 1001130000/2, 1001220000/4, 1001865000/5, 1001885000/1, 1001895000/3, 1002090000/10, 1002810000/10, 1002840000/8, 1002995000/7,
+// if copies arrive at the same time, they are in the order of their packets' numbers
+25 8 => 22: 1002440000/0, 1002440000/16,
+1000 1001 => 1002: 1126485000/993,";
 
 #[test]
 fn copies_are_delivered_by_arrival(rt: HostRuntime) -> Result<(), Fail> {
-    for row in &ROWS {
-        let deliveries = soak_deliveries(rt.alloc(), row.0.min(1_000_000))?;
-        assert_eq!(rt; deliveries.len(), row.1, "{} packets", row.0);
-        let some = deliveries.get(row.2..).unwrap_or(&[]);
-        assert!(rt; some.starts_with(row.3), "{} packets: {some:?}", row.0);
+    for line in DELIVERIES.lines() {
+        if !line.starts_with("//") {
+            let (row, wanted) = row_of(line)?;
+            let (packets, index) = row.split_once(' ').ok_or("a row without an index")?;
+            let packets: u32 = packets.parse()?;
+            let deliveries = soak_deliveries(rt.alloc(), packets.min(1_000_000))?;
+            let mut found = format!(in rt.alloc(); "{}:", deliveries.len())?;
+            for (arrival, number) in deliveries.get(index.parse()?..).unwrap_or(&[]) {
+                found.push_str(&format!(in rt.alloc(); " {arrival}/{number},")?)?;
+            }
+            assert!(rt; found.starts_with(wanted), "{row}: {found}");
+        }
+    }
+    Ok(())
+}
+
+/// How many packets are sent; then six counts. The first count is the number of deliveries. The other five counts are
+/// numbers of deliveries: those that are presented, late, repeats, without a known timestamp, or without room in the
+/// buffer. The counts for at most ten packets were worked out by hand. The counts for more packets come from another
+/// program, which has the same rules for the noise, the deliveries and the listener.
+const OUTCOMES: &str = "\
+0 => 0 0 0 0 0 0
+// one copy, which arrives 0.48 ms after its presentation time
+1 => 1 0 1 0 0 0
+// one copy of each packet; the second copy arrives exactly at its presentation time
+2 => 2 2 0 0 0 0
+10 => 8 3 4 0 1 0
+100 => 104 64 12 6 22 0
+1000 => 1002 727 171 42 62 0
+20000 => 19952 14310 3874 750 1018 0";
+
+#[test]
+fn each_delivery_has_one_outcome(rt: HostRuntime) -> Result<(), Fail> {
+    for line in OUTCOMES.lines() {
+        if !line.starts_with("//") {
+            let (row, wanted) = row_of(line)?;
+            let packets: u32 = row.parse()?;
+            let c = soak(&rt, rt.alloc(), packets.min(1_000_000))?;
+            let found = format!(in rt.alloc();
+                "{} {} {} {} {} {}",
+                c.delivered, c.presented, c.late, c.repeat, c.untimed, c.full
+            )?;
+            assert!(rt; found.as_str() == wanted, "{row} packets: {found}");
+        }
     }
     Ok(())
 }

@@ -1,110 +1,80 @@
 //! What is found in the packets of small streams.
 
-use sequence_track::{Findings, Seen, Tracker};
+use sequence_track::{Seen, Tracker};
+use std::alloc::Global;
 use std::test::Fail;
+use vectors_avtp::row_of;
 
-/// A packet without a finding of its own.
-const PLAIN: Seen = Seen {
-    id: 0x0200_0000_0001_0001,
-    subtype: 0x02,
-    seq: 0,
-    mr: false,
-    reserved: false,
-    stamp_wrong: false,
-};
+/// Notes a packet without a finding of its own, or, if `wrong` is true, a packet with both a reserved bit and a wrong
+/// timestamp. The text has what is found in the packet.
+fn noted(
+    alloc: Global,
+    tracker: &mut Tracker,
+    stream: (u64, u8),
+    seq: u8,
+    mr: bool,
+    wrong: bool,
+) -> Result<String, Fail> {
+    let (id, subtype) = stream;
+    let found = tracker.note(Seen {
+        id,
+        subtype,
+        seq,
+        mr,
+        reserved: wrong,
+        stamp_wrong: wrong,
+    });
+    let mut text = String::new(alloc);
+    if found.reserved {
+        text.push_str(" reserved")?;
+    }
+    if let Some(step) = found.step {
+        text.push_str(&format!(in alloc; " step {step}")?)?;
+    }
+    if let Some(hold) = found.hold {
+        text.push_str(&format!(in alloc; " hold {hold}")?)?;
+    }
+    if found.stamp {
+        text.push_str(" stamp")?;
+    }
+    if found.untracked {
+        text.push_str(" untracked")?;
+    }
+    Ok(text)
+}
 
-const NOTHING: Findings = Findings {
-    reserved: false,
-    step: None,
-    hold: None,
-    stamp: false,
-    untracked: false,
-};
-
-/// The maximum number of streams that are tracked.
-const MOST: u64 = 1024;
-
-/// A packet and its findings. The first three values are the packet's sequence number, its restart bit, and whether it
-/// has both a reserved bit and a wrong timestamp. The fourth value is the step of the sequence number, unless that step
-/// is 1. If the restart bit changes at this packet after fewer than eight packets with the previous value, the fifth
-/// value is the number of those packets. Otherwise, or if the stream began with the previous value of the restart bit,
-/// the fifth value is `None`.
-type Noted = (u8, bool, bool, Option<u8>, Option<u32>);
-
-/// Separate streams, each with its packets in order.
-const STREAMS: [&[Noted]; 4] = [
-    // Each finding by itself, and all findings together. The first change of the restart bit is no finding, because the
-    // value before it began with the stream. The restart bit then keeps its second value for four packets, and its
-    // third value for one packet.
-    &[
-        (0, false, false, None, None),
-        (1, true, false, None, None),
-        (2, true, true, None, None),
-        (2, true, false, Some(0), None),
-        (3, true, true, None, None),
-        (4, false, false, None, Some(4)),
-        (3, true, true, Some(255), Some(1)),
-    ],
-    // The step is counted modulo 256.
-    &[
-        (254, false, false, None, None),
-        (255, false, false, None, None),
-        (0, false, false, None, None),
-        (1, false, false, None, None),
-        (0, false, false, Some(255), None),
-        (128, false, false, Some(128), None),
-        (127, false, false, Some(255), None),
-        (1, false, false, Some(130), None),
-        (2, false, false, None, None),
-    ],
-    // The restart bit is kept for seven packets.
-    &[
-        (0, false, false, None, None),
-        (1, true, false, None, None),
-        (2, true, false, None, None),
-        (3, true, false, None, None),
-        (4, true, false, None, None),
-        (5, true, false, None, None),
-        (6, true, false, None, None),
-        (7, true, false, None, None),
-        (8, false, false, None, Some(7)),
-    ],
-    // The restart bit is kept for eight packets.
-    &[
-        (0, false, false, None, None),
-        (1, true, false, None, None),
-        (2, true, false, None, None),
-        (3, true, false, None, None),
-        (4, true, false, None, None),
-        (5, true, false, None, None),
-        (6, true, false, None, None),
-        (7, true, false, None, None),
-        (8, true, false, None, None),
-        (9, false, false, None, None),
-    ],
-];
+/// Separate streams, each with its packets in order, and what is found in each packet. A packet has its sequence
+/// number, then `m` if its restart bit is set, and `!` if it has both a reserved bit and a wrong timestamp. `step` is
+/// the step of the sequence number, unless that step is 1. If the restart bit changes at a packet after fewer than
+/// eight packets with the previous value, `hold` is the number of those packets, unless the stream began with the
+/// previous value of the restart bit.
+const STREAMS: &str = "\
+// Each finding by itself, and all findings together. The first change of the restart bit is no finding, because the
+// value before it began with the stream. The restart bit then keeps its second value for four packets, and its third
+// value for one packet.
+0, 1m, 2m!, 2m, 3m!, 4, 3m! => ;; reserved stamp; step 0; reserved stamp; hold 4; reserved step 255 hold 1 stamp;
+// The step is counted modulo 256.
+254, 255, 0, 1, 0, 128, 127, 1, 2 => ;;;; step 255; step 128; step 255; step 130;;
+// The restart bit is kept for seven packets.
+0, 1m, 2m, 3m, 4m, 5m, 6m, 7m, 8 => ;;;;;;;; hold 7;
+// The restart bit is kept for eight packets.
+0, 1m, 2m, 3m, 4m, 5m, 6m, 7m, 8m, 9 => ;;;;;;;;;;";
 
 #[test]
 fn each_packet_has_the_findings_of_its_stream(rt: HostRuntime) -> Result<(), Fail> {
     let mut tracker = Tracker::begin(rt.alloc())?;
-    for (id, stream) in STREAMS.iter().enumerate() {
-        for noted in *stream {
-            let seen = Seen {
-                id: id as u64,
-                seq: noted.0,
-                mr: noted.1,
-                reserved: noted.2,
-                stamp_wrong: noted.2,
-                ..PLAIN
-            };
-            let want = Findings {
-                reserved: noted.2,
-                step: noted.3,
-                hold: noted.4,
-                stamp: noted.2,
-                untracked: false,
-            };
-            assert_eq!(rt; tracker.note(seen), want, "{seen:?}");
+    for (id, line) in STREAMS.lines().enumerate() {
+        if !line.starts_with("//") {
+            let (row, wanted) = row_of(line)?;
+            let mut found = String::new(rt.alloc());
+            for packet in row.split(", ") {
+                let (mr, wrong) = (packet.contains('m'), packet.contains('!'));
+                let seq = packet.trim_end_matches('!').trim_end_matches('m').parse()?;
+                let stream = (id as u64, 2);
+                found.push_str(&noted(rt.alloc(), &mut tracker, stream, seq, mr, wrong)?)?;
+                found.push_str(";")?;
+            }
+            assert!(rt; found.as_str() == wanted, "{row}: {found}");
         }
     }
     Ok(())
@@ -114,46 +84,33 @@ fn each_packet_has_the_findings_of_its_stream(rt: HostRuntime) -> Result<(), Fai
 /// streams stay tracked.
 #[test]
 fn the_first_1024_subtypes_with_ids_are_tracked(rt: HostRuntime) -> Result<(), Fail> {
-    let mut tracker = Tracker::begin(rt.alloc())?;
-    for place in 0..MOST {
-        let seen = Seen {
-            id: place / 2,
-            subtype: if place % 2 == 0 { 0x02 } else { 0x03 },
-            seq: (place % 251) as u8,
-            ..PLAIN
-        };
-        assert_eq!(rt; tracker.note(seen), NOTHING, "stream {place}");
+    let alloc = rt.alloc();
+    let mut tracker = Tracker::begin(alloc)?;
+    let mut found = String::new(alloc);
+    for place in 0..1_024u64 {
+        let stream = (place / 2, if place % 2 == 0 { 2 } else { 3 });
+        let text = noted(
+            alloc,
+            &mut tracker,
+            stream,
+            (place % 251) as u8,
+            false,
+            false,
+        )?;
+        if !text.is_empty() {
+            found.push_str(&format!(in alloc; "stream {place}{text}, ")?)?;
+        }
     }
-    assert_eq!(rt; u64::from(tracker.streams()), MOST);
-    let further = Seen {
-        id: MOST,
-        reserved: true,
-        stamp_wrong: true,
-        ..PLAIN
-    };
-    let untracked = Findings {
-        reserved: true,
-        untracked: true,
-        ..NOTHING
-    };
-    let late = Findings {
-        step: Some(2),
-        ..NOTHING
-    };
-    for (seen, want) in [
-        (further, untracked),
-        (Seen { seq: 9, ..further }, untracked),
-        (
-            Seen {
-                id: 0,
-                seq: 2,
-                ..PLAIN
-            },
-            late,
-        ),
-    ] {
-        assert_eq!(rt; tracker.note(seen), want, "{seen:?}");
+    found.push_str(&format!(in alloc; "{} streams", tracker.streams())?)?;
+    for (id, seq, wrong) in [(1_024, 0, true), (1_024, 9, true), (0, 2, false)] {
+        let text = noted(alloc, &mut tracker, (id, 2), seq, false, wrong)?;
+        found.push_str(&format!(in alloc; ", {id}/{seq}{text}")?)?;
     }
-    assert_eq!(rt; u64::from(tracker.streams()), MOST);
+    found.push_str(&format!(in alloc; ", {} streams", tracker.streams())?)?;
+    assert!(rt;
+        found.as_str()
+            == "1024 streams, 1024/0 reserved untracked, 1024/9 reserved untracked, 0/2 step 2, 1024 streams",
+        "{found}"
+    );
     Ok(())
 }

@@ -3,35 +3,14 @@
 ghost use Rattle.sample_schedule.specs.Limits.{IsPlan};
 ghost use Rattle.listener.specs.Heard.{schedule_plan};
 
-use crate::captures::{Captured, capture};
+use crate::captures::{after, capture};
 use avtp_base::NoMemory;
 use listener::{Heard, ListenPlan, whole};
 use sample_schedule::Shown;
 use std::alloc::Global;
 use std::process::Abort;
 use std::test::Fail;
-
-/// A listener, the packets that are captured, and what the listener shows of them.
-#[derive(Drop)]
-pub struct Row {
-    pub name: &'static str,
-    pub buffer: u32,
-    pub room: u32,
-    /// How many items a listener with a clock looks ahead, or `None` for a listener without a clock.
-    pub look: Option<u32>,
-    pub captured: &'static [Captured],
-    pub seen: &'static str,
-}
-
-/// A listener without a clock, and with room for everything.
-pub const ROW: Row = Row {
-    name: "",
-    buffer: 4_096,
-    room: 67_108_864,
-    look: None,
-    captured: &[],
-    seen: "",
-};
+use vectors_avtp::row_of;
 
 /// A plan within its limits.
 pub fn plan_of(buffer: u32, room: u32, look: Option<u32>) -> ListenPlan
@@ -52,13 +31,25 @@ pub fn plan_of(buffer: u32, room: u32, look: Option<u32>) -> ListenPlan
     }
 }
 
-pub fn heard(alloc: Global, plan: &ListenPlan, bytes: &[u8]) -> Result<Heard, Fail>
-    requires { IsPlan (schedule_plan plan.now) }
-{
+/// What a listener hears of a capture. The listener's plan has the words `buffer:2`, `room:30` and `look:1`. Without
+/// `look:`, the listener has no clock. If the other words are left out, the listener has room for everything.
+pub fn heard(alloc: Global, plan: &str, bytes: &[u8]) -> Result<Heard, Fail> {
+    let buffer = after(plan, "buffer:").unwrap_or("4096").parse()?;
+    let room = after(plan, "room:").unwrap_or("67108864").parse()?;
+    let look = match after(plan, "look:") {
+        Some(look) => Some(look.parse()?),
+        None => None,
+    };
     if bytes.len() > 100_000_000 {
         return Err(Fail::new("a long capture"));
     }
-    Ok(whole(alloc, plan, bytes)?)
+    Ok(whole(alloc, &plan_of(buffer, room, look), bytes)?)
+}
+
+/// What a listener hears of the packets in a row. The row can begin with the words of the listener's plan and ` | `.
+pub fn heard_of(alloc: Global, row: &str) -> Result<Heard, Fail> {
+    let (plan, packets) = row.split_once(" | ").unwrap_or(("", row));
+    heard(alloc, plan, &capture(alloc, packets)?)
 }
 
 /// An item as text: its frame number and its sequence number. If the item is presented, its first instant follows;
@@ -73,11 +64,9 @@ pub fn line_of(alloc: Global, shown: &Shown) -> Result<String, NoMemory> {
     }
 }
 
-/// All items that are shown of these packets, as text.
-pub fn seen_of(alloc: Global, plan: &ListenPlan, captured: &[Captured]) -> Result<String, Fail>
-    requires { IsPlan (schedule_plan plan.now) }
-{
-    let heard = heard(alloc, plan, &capture(alloc, captured)?)?;
+/// All items that are shown of the packets in a row, as text.
+fn seen_of(alloc: Global, row: &str) -> Result<String, Fail> {
+    let heard = heard_of(alloc, row)?;
     let mut text = String::new(alloc);
     for shown in heard.shown.as_slice() {
         text.push_str(if text.is_empty() { "" } else { ", " })?;
@@ -87,11 +76,13 @@ pub fn seen_of(alloc: Global, plan: &ListenPlan, captured: &[Captured]) -> Resul
 }
 
 /// Checks that each row's packets are shown as the row says.
-pub fn check_rows(rt: &impl Abort, alloc: Global, rows: &[Row]) -> Result<(), Fail> {
-    for row in rows {
-        let plan = plan_of(row.buffer, row.room, row.look);
-        let came = seen_of(alloc, &plan, row.captured)?;
-        assert!(rt; came.as_str() == row.seen, "{}: {came}", row.name);
+pub fn check_rows(rt: &impl Abort, alloc: Global, rows: &str) -> Result<(), Fail> {
+    for line in rows.lines() {
+        if !line.starts_with("//") {
+            let (row, wanted) = row_of(line)?;
+            let found = seen_of(alloc, row)?;
+            assert!(rt; found.as_str() == wanted, "{row}: {found}");
+        }
     }
     Ok(())
 }

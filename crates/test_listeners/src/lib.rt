@@ -2,19 +2,8 @@
 //! stream's packets.
 #![tactic(auto)]
 
-/// A captured packet with some fields changed.
-macro_rules! captured {
-    ($packet:ident, $($field:ident: $value:expr),+) => {
-        Captured { $($field: $value,)+ ..$packet }
-    };
-}
-
-#[cfg(test)]
-mod blocks;
 #[cfg(test)]
 mod captures;
-#[cfg(test)]
-mod clock;
 #[cfg(test)]
 mod deliveries;
 #[cfg(test)]
@@ -23,8 +12,6 @@ mod findings;
 mod hearing;
 #[cfg(test)]
 mod instants;
-#[cfg(test)]
-mod outcomes;
 #[cfg(test)]
 mod packets;
 #[cfg(test)]

@@ -1,145 +1,121 @@
 //! Captures with records that do not belong to the stream, and captures in pieces.
 
+ghost use Rattle.std.specs.Prelude.{◌≡◌, ◌+◌, ◌≤◌, ◌^◌, false, length, OnErr, OnOk};
+ghost use Rattle.pcap_frames.specs.Reading.{taken};
+ghost use Rattle.listener.specs.Feeding.{IsQuiet, is_ended};
+
 use crate::hearing::{heard, line_of, plan_of};
-use avtp_base::{Field, Refusal};
 use listener::{Counts, ListenFault, Listener};
+use sample_schedule::Shown;
 use std::alloc::Global;
 use std::test::Fail;
-use vectors_avtp::{changed, vector};
+use vectors_avtp::{bytes_of, row_of};
 
-/// The capture of the first vector after three changes: some bytes are changed, the capture is cut after `len` bytes,
-/// and `zeros` zero bytes are appended. `packets` is the number of packets of the stream in that capture, and `refused`
-/// is the capture's first refusal.
-struct Row {
-    name: &'static str,
-    changes: &'static [(usize, u8)],
-    len: usize,
-    zeros: usize,
-    packets: u64,
-    refused: Option<Refusal>,
-}
-
-const ROWS: [Row; 5] = [
-    Row {
-        name: "the vector",
-        changes: &[],
-        len: 106,
-        zeros: 0,
-        packets: 1,
-        refused: None,
-    },
-    Row {
-        name: "a byte more",
-        changes: &[],
-        len: 106,
-        zeros: 1,
-        packets: 1,
-        refused: Some(Refusal {
-            field: Field::TsSec,
-            at: 106,
-            short: true,
-        }),
-    },
-    Row {
-        name: "another EtherType",
-        changes: &[(57, 0xf1)],
-        len: 106,
-        zeros: 0,
-        packets: 0,
-        refused: None,
-    },
-    Row {
-        name: "no byte after the EtherType",
-        changes: &[(32, 14), (36, 14), (52, 0x22), (53, 0xf0)],
-        len: 54,
-        zeros: 0,
-        packets: 0,
-        refused: None,
-    },
-    Row {
-        name: "the longest record",
-        changes: &[(32, 0), (34, 4), (36, 0), (38, 4)],
-        len: 40,
-        zeros: 262_144,
-        packets: 0,
-        refused: None,
-    },
-];
+/// Captures of one record. Each capture is followed by the number of packets of the stream in it, each of which is
+/// presented, and by the capture's first refusal.
+const ROWS: &str = "\
+pcap => 1 None
+// a byte more
+pcap 00 => 1 Some(Refusal { field: TsSec, at: 106, short: true })
+// another EtherType
+pcap 57=f1 => 0 None
+// no byte after the EtherType
+pcap 32=0e 36=0e 52=22f0 len=54 => 0 None
+// the longest record
+pcap 32=000004 36=000004 len=40 len=262184 => 0 None";
 
 #[test]
 fn a_record_is_counted_whatever_it_holds(rt: HostRuntime) -> Result<(), Fail> {
-    let plan = plan_of(1, 24, None);
-    for row in &ROWS {
-        let bytes = changed(vector(rt.alloc(), 1)?, row.changes, row.len, row.zeros)?;
-        let heard = heard(rt.alloc(), &plan, &bytes)?;
-        let counts = Counts {
-            frames: 1,
-            packets: row.packets,
-            presented: row.packets,
-            flagged: 0,
-        };
-        assert!(rt; heard.counts == counts, "{}: {:?}", row.name, heard.counts);
-        assert!(rt; heard.refused == row.refused, "{}", row.name);
+    for line in ROWS.lines() {
+        if !line.starts_with("//") {
+            let (row, wanted) = row_of(line)?;
+            let bytes = bytes_of(rt.alloc(), row)?;
+            let heard = heard(rt.alloc(), "buffer:1 room:24", &bytes)?;
+            let (packets, refused) = wanted.split_once(' ').ok_or("a row without a refusal")?;
+            let wanted = format!(in rt.alloc();
+                "Counts {{ frames: 1, packets: {packets}, presented: {packets}, flagged: 0 }} {refused}"
+            )?;
+            let found = format!(in rt.alloc(); "{:?} {:?}", heard.counts, heard.refused)?;
+            assert!(rt; found == wanted, "{row}: {found}");
+        }
     }
     Ok(())
 }
 
-/// Feeds a capture in two pieces, cut at `cut`. Returns the first item that is shown, the counts, and the faults that
+/// Feeds a piece of a capture.
+fn feed(alloc: Global, listener: &mut Listener, piece: &[u8]) -> Result<usize, ListenFault>
+    requires open { is_ended listener.old ≡ false }
+    requires bounded { taken listener.old.reader + length piece.now ≤ 2 ^ 62 }
+    ensures open { is_ended listener.new ≡ false }
+    ensures bounded { taken listener.new.reader ≤ taken listener.old.reader + length piece.now }
+    ensures stopped { OnErr result (IsQuiet listener.new) }
+{
+    listener.feed(alloc, piece)
+}
+
+/// The fault that `end` returns, the first item that is shown, and the counts.
+fn end_of(listener: &mut Listener) -> (Option<ListenFault>, Option<Shown>, Counts)
+    requires open { is_ended listener.old ≡ false }
+    requires quiet { IsQuiet listener.old }
+{
+    let at_end = listener.end().err();
+    let shown = listener.next_out();
+    (at_end, shown, listener.counts())
+}
+
+/// Feeds a capture in two pieces, cut at `cut`, and returns the fault that `feed` returns after the first record.
+fn fault_of(
+    alloc: Global,
+    listener: &mut Listener,
+    bytes: &[u8],
+    cut: usize,
+) -> Result<ListenFault, Fail>
+    requires open { is_ended listener.old ≡ false }
+    requires none { taken listener.old.reader ≡ 0 }
+    ensures open { OnOk result (is_ended listener.new ≡ false) }
+    ensures quiet { OnOk result (IsQuiet listener.new) }
+{
+    if bytes.len() > 1_000 || cut > bytes.len() {
+        return Err(Fail::new("a long capture"));
+    }
+    let front = feed(alloc, listener, &bytes[..cut])?;
+    let back = feed(alloc, listener, &bytes[cut..])?;
+    let rest = bytes.get(front.saturating_add(back)..).unwrap_or(&[]);
+    if rest.len() > 1_000 {
+        return Err(Fail::new("a long capture"));
+    }
+    match feed(alloc, listener, rest) {
+        Ok(_) => Err(Fail::new("no fault")),
+        Err(fault) => Ok(fault),
+    }
+}
+
+/// What is heard of a capture in two pieces, cut at `cut`: the first item that is shown, the counts, and the faults that
 /// `feed` and `end` return after the first record.
 fn heard_in_pieces(
     alloc: Global,
     bytes: &[u8],
     cut: usize,
 ) -> Result<(String, Counts, [Option<ListenFault>; 2]), Fail> {
-    if bytes.len() > 1_000 || cut > bytes.len() {
-        return Err(Fail::new("a long capture"));
-    }
     let mut listener = Listener::begin(alloc, plan_of(1, 24, None))?;
-    let front = listener.feed(alloc, &bytes[..cut])?;
-    let back = listener.feed(alloc, &bytes[cut..])?;
-    let rest = bytes.get(front.saturating_add(back)..).unwrap_or(&[]);
-    if rest.len() > 1_000 {
-        return Err(Fail::new("a long capture"));
-    }
-    let fault = match listener.feed(alloc, rest) {
-        Ok(_) => return Err(Fail::new("no fault")),
-        Err(fault) => fault,
-    };
-    let at_end = listener.end().err();
-    let shown = listener.next_out().ok_or("nothing is shown")?;
-    Ok((
-        line_of(alloc, &shown)?,
-        listener.counts(),
-        [Some(fault), at_end],
-    ))
+    let fault = fault_of(alloc, &mut listener, bytes, cut)?;
+    let (at_end, shown, counts) = end_of(&mut listener);
+    let line = line_of(alloc, &shown.ok_or("nothing is shown")?)?;
+    Ok((line, counts, [Some(fault), at_end]))
 }
+
+/// What is heard of the capture, wherever it is cut.
+const PIECES: &str =
+    "1/0 at 1002000000 Counts { frames: 1, packets: 1, presented: 1, flagged: 0 } [Some(Refused(Refusal { field: InclLen, at: 114, short: false })), Some(Refused(Refusal { field: InclLen, at: 114, short: false }))]";
 
 /// The capture is the first vector, followed by the header of a second record whose stated length exceeds the limit.
 #[test]
 fn a_capture_may_be_cut_anywhere(rt: HostRuntime) -> Result<(), Fail> {
-    let longer = changed(vector(rt.alloc(), 1)?, &[], 106, 16)?;
-    let bytes = changed(longer, &[(114, 1), (116, 4)], 122, 0)?;
-    let want = Counts {
-        frames: 1,
-        packets: 1,
-        presented: 1,
-        flagged: 0,
-    };
-    let refused = Some(ListenFault::Refused(Refusal {
-        field: Field::InclLen,
-        at: 114,
-        short: false,
-    }));
+    let bytes = bytes_of(rt.alloc(), "pcap len=122 114=01 116=04")?;
     for cut in 0..106usize {
-        let (seen, counts, faults) = heard_in_pieces(rt.alloc(), &bytes, cut)?;
-        assert!(rt;
-            seen.as_str() == "1/0 at 1002000000",
-            "cut at {cut}: {seen}"
-        );
-        assert!(rt;
-            counts == want && faults == [refused; 2],
-            "cut at {cut}: {faults:?}"
-        );
+        let (line, counts, faults) = heard_in_pieces(rt.alloc(), &bytes, cut)?;
+        let found = format!(in rt.alloc(); "{line} {counts:?} {faults:?}")?;
+        assert!(rt; found.as_str() == PIECES, "cut at {cut}: {found}");
     }
     Ok(())
 }
