@@ -2,7 +2,7 @@
 use Rattle.std.proofs.Common.{◌≡◌, ℕ, List, Option, Some, None, subst, refl}
 use Rattle.std.specs.Prelude.{IfSome, IsSome}
 use Rattle.avtp_base.specs.States.{SinkState}
-use Rattle.avtp_tool.specs.declared.status.Status.{Status}
+use Rattle.run_report.specs.declared.status.Status.{Status}
 use Rattle.avtp_tool.specs.HasRun.{RefusesWords}
 
 pub said_as : (P : List (List ℕ) → Type 0) (told : Option (List (List ℕ))) (words : List (List ℕ)) → IfSome told (λ said. words ≡ said) → (IsSome told → P words) → IfSome told P

@@ -8,11 +8,11 @@ use Rattle.device_rack.specs.declared.outlet.Outlet.{Outlet}
 use Rattle.device_rack.specs.declared.output_files.OutputFiles.{OutputFiles}
 use Rattle.device_rack.specs.declared.raw.RawDevice.{RawDevice}
 use Rattle.avtp_words.specs.Grammar.{IsCommandLine, IsOffence, listen, NamedFile, NamedRaw, Request}
-use Rattle.avtp_tool.specs.declared.status.Status.{Status}
-use Rattle.avtp_tool.specs.declared.status.Status.TheVariants as status
+use Rattle.run_report.specs.declared.status.Status.{Status}
+use Rattle.run_report.specs.declared.status.Status.TheVariants as status
 use Rattle.avtp_tool.specs.DeviceWords.{silence_as}
 use Rattle.avtp_tool.specs.HasRun.{HasRun, RefusesWords}
-use Rattle.avtp_tool.specs.Yield.{HandsOn}
+use Rattle.run_report.specs.Yield.{HandsOn}
 
 -- `path` gives the path of a sink's file, and `state` gives the sink's state.
 module _ {S : Type 0} (path : S → List ℕ) (state : S → SinkState) where

@@ -4,7 +4,7 @@ use crate::PROGRAM;
 use crate::system::System;
 use avtp_base::NoMemory;
 use avtp_files::FileSink;
-use avtp_tool::Status;
+use run_report::Status;
 use std::env;
 use std::io::ErrorKind;
 

@@ -3,7 +3,7 @@
 
 ghost use Rattle.std.specs.Prelude.{◌≡◌};
 ghost use Rattle.std.specs.Process.{exit_status};
-ghost use Rattle.avtp_tool.specs.Status.{code_of};
+ghost use Rattle.run_report.specs.Status.{code_of};
 
 mod host;
 mod output;
@@ -14,9 +14,9 @@ mod system;
 use crate::output::Output;
 use crate::progress::{ProgressLine, WatchedShelf};
 use avtp_files::{FileShelf, StdSink};
-use avtp_tool::Status;
 pub use host::Host;
 pub use program::run_over;
+use run_report::Status;
 use std::process::ExitCode;
 use std::thread::Threads;
 pub use system::System;

@@ -8,10 +8,11 @@ ghost use Rattle.avtp_system.specs.Program.{AreAsked, HasEnded, WritesRaw, Write
 use crate::system::System;
 use avtp_base::NoMemory;
 use avtp_files::{Shelf, Sink};
-use avtp_tool::{Status, raw_silence, run};
+use avtp_tool::{raw_silence, run};
 use avtp_words::{Command, DeviceFile, Listen, RawFile, parse};
 use device_rack::{AnnexBDevice, OutputFiles, RawDevice};
 use presenter_ring::NoGate;
+use run_report::Status;
 use std::alloc::Global;
 use std::thread::Threads;
 

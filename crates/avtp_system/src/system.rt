@@ -4,7 +4,7 @@ ghost use Rattle.std.specs.Prelude.{◌≡◌, IfErr, IfOk, IfSome, IsSome};
 ghost use Rattle.option_words.specs.Word.{texts};
 
 use avtp_base::NoMemory;
-use avtp_tool::Status;
+use run_report::Status;
 
 /// The system that a program runs on: its arguments, and the files that its devices write.
 pub trait System<S> {

@@ -1,29 +1,29 @@
 -- What words ask for.
-use Rattle.std.proofs.Common.{◌≡◌, ℕ, ◌<◌, ◌*◌, ℤ, pos, negsuc, ◌≤ℤ◌, List, ◌≤◌, Bool, drop, Option, Some, None, Result, Ok, Err, refl, sym, subst, arith}
-use Rattle.std.specs.Prelude.{◌^◌, neg_ℤ, unsigned_abs, codes, IsErrAnd, IsSome, IsSomeAnd, MatchOption, option_map}
+use Rattle.std.proofs.Common.{◌≡◌, ℕ, List, ◌≤◌, Option, Some, None, arith, refl, sym, subst, ◌*◌, ◌<◌, ℤ, pos, ◌≤ℤ◌, drop, Bool, negsuc, Result, Ok, Err}
+use Rattle.std.specs.Prelude.{MatchOption, IsSome, ◌^◌, IsSomeAnd, codes, option_map, neg_ℤ, unsigned_abs, IsErrAnd}
 use Rattle.std.proofs.lemmas.Int.{ints}
+use Rattle.option_words.specs.Number.{IsNumber, IsSigned}
+use Rattle.talk_plan.specs.Plan.{Restarts, HasRate, IsAudioKind, fdf_of, rate_code, FitsBlocks, FitsPacket, HasWholeRuns, spacing_of, HasClock, IsAudioPlan, IsVideoPlan, IsPlanOf}
+use Rattle.talk_plan.proofs.RateLemmas.{named_fdf, named_rate}
+use Rattle.avtp_words.specs.declared.talk.Kind.{Kind}
+use Rattle.avtp_words.specs.Grammar.{FitsKind, Talking, HasWholeRuns as KeepsWholeRuns, FitsClock, SaysClock, SaysTalk, KeepsRules, FitsOptions, SaysListener, IsCommandLine, Request, show, check, gateway, listen, soak, talk, agree}
+use Rattle.avtp_words.specs.Limits.{default_rate}
 use Rattle.iec61883_format.specs.Iec.{block_size, rate_of_fdf, syt_interval}
 use Rattle.talk_plan.specs.declared.plan.TalkPlan.{TalkPlan}
-use Rattle.talk_plan.specs.Plan.{FitsBlocks, FitsPacket, HasClock, HasRate, HasWholeRuns, IsAudioKind, IsAudioPlan, IsPlanOf, IsVideoPlan, Restarts, fdf_of, rate_code, spacing_of}
 use Rattle.talker.proofs.LawLemmas.{named_blocks}
-use Rattle.talk_plan.proofs.RateLemmas.{named_fdf, named_rate}
-use Rattle.avtp_words.specs.declared.command.Command.{Command}
-use Rattle.avtp_words.specs.declared.command.Offence.{Offence}
-use Rattle.avtp_words.specs.declared.crf.Crf.{Crf}
-use Rattle.avtp_words.specs.declared.talk.Kind.{Kind}
-use Rattle.avtp_words.specs.declared.talk.Kind.TheVariants as words
-use Rattle.avtp_words.specs.Grammar.{FitsClock, FitsKind, FitsOptions, HasWholeRuns as KeepsWholeRuns, IsCommandLine, KeepsRules, Request, SaysClock, SaysTalk, SaysListener, show, check, gateway, listen, soak, talk, agree, Talking}
-use Rattle.avtp_words.specs.declared.listener.ListenerOptions.{ListenerOptions}
-use Rattle.avtp_words.specs.Limits.{default_rate}
-use Rattle.option_words.specs.Number.{IsNumber, IsSigned}
 use Rattle.option_words.specs.Word.{IsId}
-use Rattle.avtp_words.proofs.Lacking.{video_clock, video_restart}
+use Rattle.avtp_words.specs.declared.crf.Crf.{Crf}
 use Rattle.option_words.specs.Options.{Setting, value_in}
+use Rattle.avtp_words.proofs.Lacking.{video_clock, video_restart}
+use Rattle.avtp_words.specs.declared.listener.ListenerOptions.{ListenerOptions}
 use Rattle.sample_schedule.specs.Limits.{IsPlan as IsSchedulePlan}
 use Rattle.listener.specs.Heard.{schedule_plan}
-use Rattle.avtp_tool.specs.Listen.{plan_of}
+use Rattle.avtp_words.specs.declared.command.Command.{Command}
+use Rattle.avtp_words.specs.declared.command.Offence.{Offence}
+use Rattle.avtp_words.specs.declared.talk.Kind.TheVariants as words
+use Rattle.run_report.specs.Listener.{plan_of}
+use Rattle.talk_command.specs.Talk.{talk_kind, talk_plan, talk_clock}
 use Rattle.avtp_tool.specs.state.Run.{IsRequest}
-use Rattle.avtp_tool.specs.Talk.{talk_clock, talk_kind, talk_plan}
 
 given_within : (v : Option (List ℕ)) (low high default n : ℕ) → low ≤ default → default ≤ high → MatchOption v (n ≡ default) (λ word. IsNumber low high word n) → (low ≤ n) × (n ≤ high)
 given_within None low high default n least most given = (omega (arith, given, least), omega (arith, given, most))

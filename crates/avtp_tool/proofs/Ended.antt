@@ -1,24 +1,23 @@
 -- How a run ends after its pending text was written, or after writing it failed.
-use Rattle.std.proofs.Common.{◌≡◌, ◌≢◌, ℕ, List, Option, Result, Ok, Err, true, false, sym, ap, subst, ◌∙◌, arith}
+use Rattle.std.proofs.Common.{ℕ, arith, ◌≡◌, ◌≢◌, List, Option, Result, Ok, sym, subst, Err, ◌∙◌, ap, true, false}
 use Rattle.std.specs.Prelude.{IfOk}
 use Rattle.std.proofs.lemmas.List.{append-nil}
-use Rattle.avtp_base.specs.declared.failed.Failed.{Failed}
 use Rattle.avtp_base.specs.Faults.{IsQuiet, Rose}
-use Rattle.avtp_base.specs.Told.{Appends}
+use Rattle.avtp_base.specs.declared.failed.Failed.{Failed}
 use Rattle.avtp_base.specs.States.{Asks, ShelfState, SinkState, WasAsked}
-use Rattle.avtp_text.specs.Written.{AppendsPrefix, written}
+use Rattle.sample_schedule.specs.declared.shown.Shown.{Shown}
+use Rattle.avtp_base.specs.Told.{Appends}
+use Rattle.avtp_text.specs.Written.{written, AppendsPrefix}
 use Rattle.avtp_text.proofs.Printing.{prefix_none, prefix_whole}
 use Rattle.avtp_words.specs.Grammar.{IsCommandLine, Request, show, check, gateway, listen, Listening, talk, soak, agree}
-use Rattle.avtp_tool.specs.declared.status.Status.{Status}
-use Rattle.avtp_tool.specs.declared.status.Status.TheVariants as status
-use Rattle.avtp_tool.specs.Outcome.{AsksFor}
-use Rattle.avtp_tool.specs.state.Outcome.{EndsWith, Finishes, TellsRun}
-use Rattle.avtp_tool.specs.Run.{is_listening, is_through}
-use Rattle.avtp_tool.specs.state.Run.{IsThrough}
-use Rattle.avtp_tool.specs.Yield.{Yield}
-use Rattle.avtp_tool.specs.state.Yield.{Gives}
-use Rattle.sample_schedule.specs.declared.shown.Shown.{Shown}
-use Rattle.avtp_tool.proofs.Outcomes.{ok_same}
+use Rattle.run_report.specs.declared.status.Status.{Status}
+use Rattle.run_report.specs.Outcome.{TellsRun, EndsWith, is_through, AsksFor}
+use Rattle.run_report.specs.Yield.{Yield, Gives}
+use Rattle.run_report.specs.Runs.{IsThrough}
+use Rattle.run_report.proofs.Outcomes.{ok_same}
+use Rattle.run_report.specs.declared.status.Status.TheVariants as status
+use Rattle.avtp_tool.specs.state.Run.{Finishes}
+use Rattle.avtp_tool.specs.Run.{is_listening}
 
 -- ---- what was told
 

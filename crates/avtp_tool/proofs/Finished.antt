@@ -1,13 +1,13 @@
 -- What the sink holds after the pending text was written.
-use Rattle.std.proofs.Common.{◌≡◌, ℕ, ◌≤◌, List, [], ◌++◌, Option, Some, None, Result, Ok, Err, refl, sym, ap, subst, ◌∙◌, append_assoc, arith}
-use Rattle.std.specs.Prelude.{IsErr}
+use Rattle.std.proofs.Common.{◌≡◌, ℕ, List, [], Option, Some, None, refl, ap, subst, ◌++◌, sym, ◌∙◌, append_assoc, ◌≤◌, Result, Ok, Err, arith}
 use Rattle.std.proofs.lemmas.List.{append-nil, append_cancel_left}
-use Rattle.avtp_base.specs.declared.failed.Failed.{Failed}
-use Rattle.avtp_base.specs.Faults.{IsCounted, Rose}
+use Rattle.std.specs.Prelude.{IsErr}
+use Rattle.avtp_text.specs.Written.{written, AppendsPrefix, Grows}
 use Rattle.avtp_base.specs.Told.{Appends, Keeps}
 use Rattle.avtp_base.proofs.Told.{Appends-kept}
-use Rattle.avtp_text.specs.Written.{AppendsPrefix, Grows, written}
-use Rattle.avtp_tool.specs.declared.status.Status.{Status}
+use Rattle.avtp_base.specs.declared.failed.Failed.{Failed}
+use Rattle.avtp_base.specs.Faults.{IsCounted, Rose}
+use Rattle.run_report.specs.declared.status.Status.{Status}
 
 written_none : (held : Option (List ℕ)) → written held [] ≡ held
 written_none None = refl

@@ -1,32 +1,30 @@
 -- The run of `listen` over all its files, and what its last line says of the devices.
-use Rattle.std.proofs.Common.{◌≡◌, ◌≢◌, ℕ, ◌<◌, ◌≤◌, Bool, true, false, List, [], ◌++◌, Option, None, Result, Ok, Err, refl, sym, ap, subst, ◌∙◌, arith}
-use Rattle.std.specs.Prelude.{IfOk, is_err, IsErr, nat_lt}
-use Rattle.std.proofs.lemmas.Bool.{le-ltb, lt-ltb, false_from_ne_true}
+use Rattle.std.proofs.Common.{List, ◌++◌, sym, ap, subst, ◌∙◌, ◌≡◌, Bool, true, Result, Ok, false, [], refl, ◌≢◌, ℕ, Option, Err, None, arith, ◌<◌, ◌≤◌}
 use Rattle.std.proofs.lemmas.List.{append-nil}
-use Rattle.avtp_base.specs.declared.failed.Failed.{Failed}
-use Rattle.avtp_base.specs.Faults.{Rose}
-use Rattle.avtp_base.specs.Files.{Files}
-use Rattle.avtp_base.specs.Told.{Appends}
-use Rattle.avtp_base.specs.States.{Asks, ShelfState, SinkState}
-use Rattle.avtp_text.specs.Notices.{device_fault_line}
-use Rattle.avtp_text.specs.Written.{written}
+use Rattle.std.specs.Prelude.{IfOk, is_err, IsErr, nat_lt}
+use Rattle.std.proofs.lemmas.Bool.{false_from_ne_true, lt-ltb, le-ltb}
 use Rattle.sample_schedule.specs.declared.shown.Shown.{Shown}
-use Rattle.avtp_words.specs.Grammar.{listen, Listening}
-use Rattle.avtp_tool.specs.declared.status.Status.{Status}
-use Rattle.avtp_tool.specs.declared.status.Status.TheVariants as status
-use Rattle.avtp_tool.specs.Listen.{listen_plan}
-use Rattle.avtp_tool.specs.Outcome.{AsksFor}
-use Rattle.avtp_tool.specs.state.Outcome.{EndsWith, TellsRun}
-use Rattle.avtp_tool.specs.Reading.{PlanOutcome}
-use Rattle.avtp_tool.specs.state.Reading.{DoesFiles, DoesReading}
-use Rattle.avtp_tool.specs.Run.{device_notice, device_status, ListenOutcome, Outcome}
-use Rattle.avtp_tool.specs.state.Run.{IsThrough, Runs, TellsDevices}
-use Rattle.avtp_tool.specs.Yield.{says, with_more, Yield}
-use Rattle.avtp_tool.specs.state.Yield.{Gives, GivesPart, HandsNothing}
-use Rattle.avtp_tool.proofs.Leaving.{never_ends, only_read}
-use Rattle.avtp_tool.proofs.Outcomes.{counts_failed, ends_not, sink_failed, sink_then}
-use Rattle.avtp_tool.proofs.PlanRuns.{tells_all, through_as}
-use Rattle.avtp_tool.proofs.Yields.{gives_then, Joins, more_none, part_before, part_none, part_then, part_whole}
+use Rattle.avtp_base.specs.declared.failed.Failed.{Failed}
+use Rattle.avtp_base.specs.Files.{Files}
+use Rattle.avtp_base.specs.States.{Asks, ShelfState, SinkState}
+use Rattle.avtp_words.specs.Grammar.{Listening, listen}
+use Rattle.avtp_text.specs.Notices.{device_fault_line}
+use Rattle.avtp_base.specs.Told.{Appends}
+use Rattle.avtp_text.specs.Written.{written}
+use Rattle.avtp_base.specs.Faults.{Rose}
+use Rattle.run_report.specs.Yield.{HandsNothing, says, with_more, Gives, GivesPart, Yield}
+use Rattle.run_report.proofs.Yields.{Joins, more_none, part_before, gives_then, part_none, part_then, part_whole}
+use Rattle.run_report.specs.declared.status.Status.{Status}
+use Rattle.run_report.specs.Outcome.{TellsRun, EndsWith, AsksFor}
+use Rattle.run_report.specs.Reading.{PlanOutcome, DoesFiles, DoesReading}
+use Rattle.run_report.specs.Runs.{TellsDevices, IsThrough, Runs}
+use Rattle.run_report.proofs.Leaving.{never_ends, only_read}
+use Rattle.run_report.proofs.Outcomes.{ends_not, sink_then, counts_failed, sink_failed}
+use Rattle.run_report.proofs.Runs.{tells_all, through_as}
+use Rattle.run_report.specs.declared.status.Status.TheVariants as status
+use Rattle.listen_command.specs.Listen.{device_notice, device_status, listen_plan, ListenOutcome}
+use Rattle.avtp_tool.specs.Run.{Outcome}
+use Rattle.avtp_tool.specs.state.Run.{task_of}
 
 joins_text : (handed : List Shown → Type 0) → Joins handed HandsNothing handed
 joins_text handed xs ys first none = subst handed (sym (append-nil xs) ∙ ap (λ (l : List Shown). xs ++ l) (sym none)) first
@@ -110,11 +108,11 @@ tells_listening : {s t : ShelfState} {handed : List Shown → Type 0} {before no
     → TellsRun (λ came ended yields. Outcome (listen asked) all fault failed came ended yields None) handed s t before now result
 tells_listening told = record { came = told.came; ended = told.ended; yields = told.yields; outcome = (told.outcome, refl); whole = told.whole; part = told.part }
 
-tells_plain : (asked : Listening) (failed : Bool) (result : Result Status Failed) → IsPlain failed result → (result ≡ Ok status.DeviceFault → ⊥) → TellsDevices (listen asked) failed result
+tells_plain : (asked : Listening) (failed : Bool) (result : Result Status Failed) → IsPlain failed result → (result ≡ Ok status.DeviceFault → ⊥) → TellsDevices (task_of (listen asked)) failed result
 tells_plain asked failed result plain never = record { fault = λ e. absurd (never e); quiet = λ listens done. false_from_ne_true failed (plain done) }
 
 module _ {s t : ShelfState} {h h' : SinkState} {l l' : List ℕ} {handed : List Shown → Type 0} (asked : Listening) (failed : Bool) where
-  pub plain_runs : (read result : Result Status Failed) → read ≡ result → IsPlain failed result → DoesFiles (listen_plan asked) handed s t h h' l l' read → Runs (listen asked) handed failed s t h h' l l' result
+  pub plain_runs : (read result : Result Status Failed) → read ≡ result → IsPlain failed result → DoesFiles (listen_plan asked) handed s t h h' l l' read → Runs (task_of (listen asked)) handed failed s t h h' l l' result
   plain_runs read result same plain did =
       let does = subst (DoesFiles (listen_plan asked) handed s t h h' l l') same did in
       let never = never_ends result status.DeviceFault refl does.own in
@@ -131,7 +129,7 @@ module _ {s t : ShelfState} {h h' : SinkState} {l l' : List ℕ} {handed : List 
       }
 
   pub fault_runs : {h'' : SinkState} {l'' : List ℕ} (read result : Result Status Failed) → read ≡ Ok status.Done → failed ≡ true → EndsWith status.DeviceFault h' h'' l' l'' result device_fault_line
-      → DoesFiles (listen_plan asked) handed s t h h' l l' read → Runs (listen asked) handed failed s t h h'' l l'' result
+      → DoesFiles (listen_plan asked) handed s t h h' l l' read → Runs (task_of (listen asked)) handed failed s t h h'' l l'' result
   fault_runs read result done is last did =
       let does = subst (DoesFiles (listen_plan asked) handed s t h h' l l') done did in
       let still : t.reading_faults ≡ s.reading_faults = does.counts.quiet (λ e. cc) (λ e. cc) (λ e. cc) in

@@ -1,56 +1,30 @@
 -- The run of a command that reads files.
-use Rattle.std.proofs.Common.{◌≡◌, ℕ, Bool, true, false, List, [], ◌∷◌, length, take, Option, None, Some, Result, Ok, Err, inl, inr, refl, sym, subst, ◌∙◌, arith}
-use Rattle.std.specs.Prelude.{◌≢◌, IfOk}
+use Rattle.std.proofs.Common.{ℕ, List, [], ◌∷◌, Option, Result, inl, inr, ◌≡◌, length, take, refl, sym, subst, arith, Bool, None, false, true, Ok, Err}
 use Rattle.std.proofs.lemmas.Bool.{cases_Bool}
 use Rattle.std.proofs.lemmas.List.{append-nil}
+use Rattle.std.specs.Prelude.{◌≢◌, IfOk}
 use Rattle.avtp_base.specs.declared.failed.Failed.{Failed}
-use Rattle.avtp_base.specs.Faults.{Rose}
-use Rattle.avtp_base.specs.Files.{Files, KeepsFiles}
 use Rattle.avtp_base.specs.States.{Asks, ShelfState, SinkState}
 use Rattle.sample_schedule.specs.declared.shown.Shown.{Shown}
+use Rattle.avtp_base.specs.Faults.{Rose}
 use Rattle.capture_io.specs.Reads.{OnlyReads}
 use Rattle.avtp_text.specs.Written.{written}
-use Rattle.avtp_words.specs.Grammar.{agree, check, files_of, gateway, listen, output_of, Request, show, soak, talk}
-use Rattle.avtp_tool.specs.declared.status.Status.{Status}
-use Rattle.avtp_tool.specs.declared.status.Status.TheVariants as status
-use Rattle.avtp_tool.specs.Made.{KeepsFilesBut, KeepsSlotsFor, MakesOutput, MakesPart}
-use Rattle.avtp_tool.specs.state.Made.{CountsWriting}
-use Rattle.avtp_tool.specs.Outcome.{AsksFor, is_done}
-use Rattle.avtp_tool.specs.state.Outcome.{CountsReading, IsDone, TellsRun, TellsYield}
-use Rattle.avtp_tool.specs.Reading.{InOrder, one_outcome, ReadPlan}
-use Rattle.avtp_tool.specs.state.Reading.{DoesFile, DoesFiles, DoesReading}
-use Rattle.avtp_tool.specs.Run.{again_of, is_listening, Outcome}
-use Rattle.avtp_tool.specs.state.Run.{IsThrough, Runs, TellsAll, TellsDevices}
-use Rattle.avtp_tool.specs.Yield.{Yield}
-use Rattle.avtp_tool.specs.state.Yield.{Gives, GivesPart, HandsNothing}
-use Rattle.avtp_tool.proofs.Yields.{gives_as, part_as}
-use Rattle.avtp_tool.proofs.InOrder.{order_last, order_one}
-use Rattle.avtp_tool.proofs.Leaving.{never_ends, only_read}
-use Rattle.avtp_tool.proofs.Outcomes.{IsCut, tells_weaker}
-
--- ---- one file
-
-pub run_asked : {a b : ShelfState} {before now : Option (List ℕ)} {handed : List Shown → Type 0} {result : Result Status Failed} (Outcome : List (List ℕ) → Status → Yield → Type 0) (came : List (List ℕ)) → TellsYield (Outcome came) handed before now result → Asks came a b
-    → TellsRun Outcome handed a b before now result
-run_asked {a} {b} {before} {now} {handed} {result} Outcome came t asked = record {
-  came = came;
-  ended = t.ended;
-  yields = t.yields;
-  outcome = t.outcome;
-  whole = whole_at result t.whole;
-  part = t.part;
-} where
-  whole_at : (r : Result Status Failed) → IfOk r (λ s. s ≢ status.Memory → s ≢ status.WriteFault → (s ≡ t.ended) × Gives handed before now t.yields)
-      → IfOk r (λ s. s ≢ status.Memory → s ≢ status.WriteFault → (s ≡ t.ended) × Gives handed before now t.yields × Asks came a b)
-  whole_at (Ok s) whole = λ memory write. let w = whole memory write in (w.0, w.1, asked)
-  whole_at (Err e) whole = tt
-
-pub run_cut : {a b : ShelfState} {before now : Option (List ℕ)} {handed : List Shown → Type 0} {result : Result Status Failed} (Outcome : List (List ℕ) → Status → Yield → Type 0) (came : List (List ℕ)) (ended : Status) (yields : Yield)
-    → Outcome came ended yields → IsCut result → GivesPart handed before now yields → TellsRun Outcome handed a b before now result
-run_cut {a} {b} {before} {now} {handed} {result} Outcome came ended yields outcome cut part = record { came = came; ended = ended; yields = yields; outcome = outcome; whole = whole_at result cut; part = part } where
-  whole_at : (r : Result Status Failed) → IsCut r → IfOk r (λ s. s ≢ status.Memory → s ≢ status.WriteFault → (s ≡ ended) × Gives handed before now yields × Asks came a b)
-  whole_at (Ok s) cut = λ memory write. elim cut [ inl is ↦ absurd (memory is) | inr is ↦ absurd (write is) ]
-  whole_at (Err e) cut = tt
+use Rattle.avtp_base.specs.Files.{Files}
+use Rattle.avtp_words.specs.Grammar.{Request, files_of, output_of, agree, check, gateway, listen, show, soak, talk}
+use Rattle.run_report.specs.declared.status.Status.{Status}
+use Rattle.run_report.specs.Outcome.{is_done, TellsRun, TellsYield, CountsReading, AsksFor}
+use Rattle.run_report.specs.Reading.{InOrder, one_outcome, ReadPlan, DoesFile, DoesFiles, DoesReading}
+use Rattle.run_report.specs.Yield.{Yield, Gives, HandsNothing}
+use Rattle.run_report.proofs.InOrder.{order_last, order_one}
+use Rattle.run_report.proofs.Outcomes.{tells_weaker}
+use Rattle.run_report.proofs.Runs.{run_asked, tells_all, through_as, no_devices}
+use Rattle.run_report.specs.Made.{KeepsFilesBut, KeepsSlotsFor, CountsWriting}
+use Rattle.run_report.specs.Runs.{IsThrough, Runs}
+use Rattle.run_report.proofs.Leaving.{never_ends, only_read}
+use Rattle.run_report.proofs.Yields.{gives_as, part_as}
+use Rattle.run_report.specs.declared.status.Status.TheVariants as status
+use Rattle.avtp_tool.specs.Run.{Outcome, again_of, is_listening}
+use Rattle.avtp_tool.specs.state.Run.{task_of}
 
 single : {a b : ShelfState} {before now : Option (List ℕ)} {handed : List Shown → Type 0} {result : Result Status Failed} (one : List ℕ → Status → Yield → Type 0) (name : List ℕ) → TellsYield (one name) handed before now result → Asks (name ∷ []) a b
     → TellsRun (InOrder one (name ∷ [])) handed a b before now result
@@ -72,49 +46,13 @@ one_file {s} {t} {h} {h'} {l} {l'} {result = result} {handed} plan name named do
   sink = does.sink;
 }
 
--- ---- a command
-
--- a run that leaves all files unchanged makes no output
-makes_nothing : (output : Option (List ℕ)) (f g : Option Files) → KeepsFiles f g → MakesOutput output None f g × MakesPart output None f g
-makes_nothing None f g keeps = (keeps, keeps)
-makes_nothing (Some name) f g keeps = (keeps, keeps)
-
-pub tells_all : {request : Request} {all : Files} {fault : Type 0} {failed : Bool} {handed : List Shown → Type 0} {s t : ShelfState} {before now : Option (List ℕ)} {result : Result Status Failed} → KeepsFiles s.files t.files
-    → TellsRun (λ came ended yields. Outcome request all fault failed came ended yields None) handed s t before now result → TellsAll request all fault failed handed s t before now result
-tells_all {request} {s = s} {t} {result = result} keeps tells = record { made = None; tells = tells; whole = whole_at result; begun = nothing.1 } where
-  nothing : MakesOutput (output_of request) None s.files t.files × MakesPart (output_of request) None s.files t.files
-  nothing = makes_nothing (output_of request) s.files t.files keeps
-
-  whole_at : (r : Result Status Failed) → IfOk r (λ e. e ≢ status.Memory → e ≢ status.WriteFault → MakesOutput (output_of request) None s.files t.files)
-  whole_at (Ok e) = λ memory write. nothing.0
-  whole_at (Err e) = tt
-
 -- each possible outcome of the reading is also an outcome of the request, with no capture made
 abbrev pub IsReadingOf : Request → (Files → Type 0 → List (List ℕ) → Status → Yield → Type 0) → Type 1
 IsReadingOf request Comes = (all : Files) (fault : Type 0) (failed : Bool) (came : List (List ℕ)) (ended : Status) (yields : Yield) → Comes all fault came ended yields → Outcome request all fault failed came ended yields None
 
-through_done : (result : Result Status Failed) → (result ≡ Ok status.DeviceFault → ⊥) → IsThrough result → IsDone result
-through_done (Ok status.Done) other through = refl
-through_done (Ok status.Findings) other through = refl
-through_done (Ok status.Words) other through = through
-through_done (Ok status.Refused) other through = through
-through_done (Ok status.ReadFault) other through = through
-through_done (Ok status.WriteFault) other through = through
-through_done (Ok status.Memory) other through = through
-through_done (Ok status.Limit) other through = through
-through_done (Ok status.DeviceFault) other through = absurd (other refl)
-through_done (Ok status.TalkInput) other through = through
-through_done (Err e) other through = through
-
-pub through_as : {names : List (List ℕ)} {a b : ShelfState} {result : Result Status Failed} → (result ≡ Ok status.DeviceFault → ⊥) → AsksFor names a b (IsDone result) → AsksFor names a b (IsThrough result)
-through_as {result = result} other asks = record { count = asks.count; within = asks.within; all = λ through. asks.all (through_done result other through); asked = asks.asked }
-
-pub no_devices : {request : Request} {failed : Bool} {result : Result Status Failed} → is_listening request ≡ false → (result ≡ Ok status.DeviceFault → ⊥) → TellsDevices request failed result
-no_devices other never = record { fault = λ e. absurd (never e); quiet = λ listens. absurd (let t : true ≡ false = sym listens ∙ other in cc) }
-
 pub reading_runs : {s t : ShelfState} {h h' : SinkState} {l l' : List ℕ} {result : Result Status Failed} {handed : List Shown → Type 0} {Comes : Files → Type 0 → List (List ℕ) → Status → Yield → Type 0} {names : List (List ℕ)} (request : Request) (failed : Bool) (other : Request)
-    → request ≡ other → IsReadingOf request Comes → is_listening request ≡ false → files_of request ≡ names → output_of request ≡ None → again_of request ≡ [] → DoesReading Comes names handed s t h h' l l' result → Runs other handed failed s t h h' l l' result
-reading_runs {s} {t} {h} {h'} {l} {l'} {result} {handed} {names = names} request failed other same is deaf named none once does = subst (λ (q : Request). Runs q handed failed s t h h' l l' result) same (record {
+    → request ≡ other → IsReadingOf request Comes → is_listening request ≡ false → files_of request ≡ names → output_of request ≡ None → again_of request ≡ [] → DoesReading Comes names handed s t h h' l l' result → Runs (task_of other) handed failed s t h h' l l' result
+reading_runs {s} {t} {h} {h'} {l} {l'} {result} {handed} {names = names} request failed other same is deaf named none once does = subst (λ (q : Request). Runs (task_of q) handed failed s t h h' l l' result) same (record {
   tells = λ all told still.
       let to = does.tells all told still in
       tells_all does.keeps.files
@@ -143,7 +81,7 @@ outcome_deaf (agree asked) all fault failed other came ended yields made deaf o 
 outcome_deaf (gateway asked) all fault failed other came ended yields made deaf o = o
 
 pub runs_deaf : {s t : ShelfState} {h h' : SinkState} {l l' : List ℕ} {result : Result Status Failed} {handed : List Shown → Type 0} {failed : Bool} (request : Request) → is_listening request ≡ false → handed []
-    → Runs request HandsNothing false s t h h' l l' result → Runs request handed failed s t h h' l l' result
+    → Runs (task_of request) HandsNothing false s t h h' l l' result → Runs (task_of request) handed failed s t h h' l l' result
 runs_deaf {s = s} {t} {h} {h'} {l} {l'} {result = result} {handed} {failed} request deaf none runs = record {
   tells = λ all told still.
       let so = runs.tells all told still in
@@ -179,5 +117,5 @@ runs_deaf {s = s} {t} {h} {h'} {l} {l'} {result = result} {handed} {failed} requ
   whole_at (Err e) came ended yields whole = tt
 
 pub runs_of : {s t : ShelfState} {h h' : SinkState} {l l' : List ℕ} {result : Result Status Failed} {handed : List Shown → Type 0} {failed : Bool} {request other : Request} → request ≡ other
-    → Runs request handed failed s t h h' l l' result → Runs other handed failed s t h h' l l' result
-runs_of {s} {t} {h} {h'} {l} {l'} {result} {handed} {failed} same runs = subst (λ (q : Request). Runs q handed failed s t h h' l l' result) same runs
+    → Runs (task_of request) handed failed s t h h' l l' result → Runs (task_of other) handed failed s t h h' l l' result
+runs_of {s} {t} {h} {h'} {l} {l'} {result} {handed} {failed} same runs = subst (λ (q : Request). Runs (task_of q) handed failed s t h h' l l' result) same runs

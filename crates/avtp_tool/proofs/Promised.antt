@@ -1,38 +1,39 @@
 -- If a run did what the words ask for and its text was then written, the command's promise `HasRun` holds for the run.
-use Rattle.std.proofs.Common.{◌≡◌, ◌≢◌, ℕ, ℤ, List, [], ◌∷◌, ◌++◌, Option, Some, Result, Bool, false, inl, inr, refl, sym, ap, subst, ◌∙◌, arith}
+use Rattle.std.proofs.Common.{◌≡◌, ℕ, ℤ, List, Bool, refl, sym, ap, subst, ◌∙◌, ◌∷◌, ◌++◌, Option, Some, ◌≢◌, [], Result, false, inl, inr, arith}
 use Rattle.std.specs.Prelude.{IfOk, IsSome}
-use Rattle.avtp_base.specs.declared.failed.Failed.{Failed}
-use Rattle.avtp_base.specs.Faults.{IsCounted}
 use Rattle.avtp_base.specs.Files.{Files}
+use Rattle.packet_journal.specs.Packets.{PacketJournal}
+use Rattle.avtp_words.specs.Grammar.{Agreeing, Request, listen, Listening, IsCommandLine, gateway, Turning, output_of}
+use Rattle.avtp_words.proofs.Commands.{gateway_id}
+use Rattle.avtp_base.specs.declared.failed.Failed.{Failed}
 use Rattle.avtp_base.specs.States.{Asks, ShelfState, SinkState}
+use Rattle.avtp_text.specs.Written.{Grows, written}
+use Rattle.sample_schedule.specs.declared.shown.Shown.{Shown}
+use Rattle.avtp_base.specs.Faults.{IsCounted}
+use Rattle.avtp_text.proofs.Growth.{grows_further}
 use Rattle.avtp_base.proofs.Files.{KeepsFiles-refl}
 use Rattle.avtp_base.proofs.Told.{Appends-nil, Keeps-refl}
-use Rattle.avtp_text.specs.Notices.{words_line}
-use Rattle.avtp_text.specs.Written.{Grows, written}
-use Rattle.avtp_text.proofs.Growth.{grows_further}
 use Rattle.avtp_text.proofs.Printing.{prefix_none}
-use Rattle.packet_journal.specs.Packets.{PacketJournal}
-use Rattle.sample_schedule.specs.declared.shown.Shown.{Shown}
-use Rattle.avtp_words.specs.Grammar.{Agreeing, IsCommandLine, gateway, listen, output_of, Listening, Request, Turning}
-use Rattle.avtp_words.proofs.Commands.{gateway_id}
-use Rattle.avtp_tool.specs.declared.status.Status.{Status}
-use Rattle.avtp_tool.specs.declared.status.Status.TheVariants as status
-use Rattle.avtp_tool.specs.Agree.{HasAgreement, agree_report, compared_text}
-use Rattle.avtp_tool.proofs.AgreeRun.{has_agreement}
-use Rattle.avtp_tool.specs.Gateway.{KeepsInput}
-use Rattle.avtp_tool.proofs.GatewayRun.{keeps_input}
-use Rattle.avtp_tool.specs.HasRun.{ComparesTalker, HasRun, RefusesWords, Reports}
-use Rattle.avtp_tool.specs.Listen.{HasHeadline}
-use Rattle.avtp_tool.specs.Run.{Outcome, came_for, is_listening, made_for, names_of, status_for, yield_for}
-use Rattle.avtp_tool.specs.Yield.{Yield}
-use Rattle.avtp_tool.specs.Made.{MakesOutput}
-use Rattle.avtp_tool.specs.state.Outcome.{EndsWith, Finishes}
-use Rattle.avtp_tool.specs.state.Run.{Runs}
-use Rattle.avtp_tool.specs.state.Yield.{Gives}
-use Rattle.avtp_tool.proofs.Complete.{complete_of, has_headline, outcome_here}
-use Rattle.avtp_tool.proofs.Ended.{asks_nothing, asks_same, ended_as, ends_prefix, ends_whole, not_ended, offence_ends, quiet_if, quiet_not, through_to}
+use Rattle.avtp_text.specs.Notices.{words_line}
+use Rattle.run_report.specs.Yield.{Yield, Gives}
+use Rattle.run_report.specs.declared.status.Status.{Status}
+use Rattle.run_report.specs.Made.{MakesOutput}
+use Rattle.run_report.specs.Runs.{Runs}
+use Rattle.run_report.proofs.Making.{files_still, part_kept, slots_here}
+use Rattle.run_report.specs.Outcome.{EndsWith}
+use Rattle.run_report.specs.declared.status.Status.TheVariants as status
+use Rattle.listen_command.specs.Listen.{HasHeadline}
+use Rattle.listen_command.proofs.Headline.{has_headline}
+use Rattle.agree_command.specs.Agree.{HasAgreement, agree_report, compared_text}
+use Rattle.agree_command.proofs.AgreeRun.{has_agreement}
+use Rattle.gateway_command.specs.Gateway.{KeepsInput}
+use Rattle.gateway_command.proofs.GatewayRun.{keeps_input}
+use Rattle.avtp_tool.specs.HasRun.{ComparesTalker, Reports, HasRun, RefusesWords}
+use Rattle.avtp_tool.specs.Run.{yield_for, Outcome, is_listening, names_of, came_for, made_for, status_for}
+use Rattle.avtp_tool.specs.state.Run.{task_of, Finishes}
+use Rattle.avtp_tool.proofs.Complete.{complete_of, outcome_here}
+use Rattle.avtp_tool.proofs.Ended.{quiet_not, asks_same, ended_as, not_ended, quiet_if, through_to, asks_nothing, ends_prefix, ends_whole, offence_ends}
 use Rattle.avtp_tool.proofs.Finished.{flushed, gains_prefix, rose_later}
-use Rattle.avtp_tool.proofs.Making.{files_still, part_kept, slots_here}
 
 -- ---- what is printed
 
@@ -56,7 +57,7 @@ kept_of words request files fault failed came reached yields made asked capture 
     keeps_input capture (gateway_id words asked says.0) turns.0 some
 
 reports_of : (words : List (List ℕ)) {request : Request} {handed : List Shown → Type 0} {failed : Bool} {shelf shelf' : ShelfState} {out mid out' : SinkState} {w w1 w2 : List ℕ} {r : Result Status Failed} {ended : Status}
-    → IsCommandLine words request → w ≡ [] → Runs request handed failed shelf shelf' out mid w w1 r → Finishes mid out' w1 w2 r ended → Grows out.held out'.held
+    → IsCommandLine words request → w ≡ [] → Runs (task_of request) handed failed shelf shelf' out mid w w1 r → Finishes mid out' w1 w2 r ended → Grows out.held out'.held
     → (files : Files) → shelf.files ≡ Some files → IsSome shelf'.files → Reports request files failed handed shelf shelf' out out' ended
 reports_of words {request} {handed} {failed} {shelf} {shelf'} {out} {mid} {out'} {w} {w1} {w2} {r} {ended} line none runs finishes grown files told some =
     let so = runs.tells files told some in
@@ -89,7 +90,7 @@ reports_of words {request} {handed} {failed} {shelf} {shelf'} {out} {mid} {out'}
 -- ---- the command
 
 pub has_run : (words : List (List ℕ)) {request : Request} {handed : List Shown → Type 0} {still : Type 0} {failed : Bool} {shelf shelf' : ShelfState} {out mid out' : SinkState} {w w1 w2 : List ℕ} {r : Result Status Failed} {ended : Status}
-    → IsCommandLine words request → w ≡ [] → Runs request handed failed shelf shelf' out mid w w1 r → Finishes mid out' w1 w2 r ended → (is_listening request ≡ false → still)
+    → IsCommandLine words request → w ≡ [] → Runs (task_of request) handed failed shelf shelf' out mid w w1 r → Finishes mid out' w1 w2 r ended → (is_listening request ≡ false → still)
     → HasRun request handed still failed shelf shelf' out out' ended
 has_run words {request} {handed} {still} {failed} {shelf} {shelf'} {out} {mid} {out'} {w} {w1} {w2} {r} {ended} line none runs finishes silent =
     let grown = grows_further _ _ _ runs.sink.grows finishes.grows in

@@ -1,31 +1,28 @@
 -- The files of a run are read one after another, from the first file to the last.
-use Rattle.std.proofs.Common.{◌≡◌, ℕ, zero, suc, ◌+◌, ◌<◌, ◌≤◌, List, [], ◌∷◌, ◌++◌, length, take, drop, get_or, Option, Some, None, Result, Ok, Err, true, false, inl, inr, refl, sym, ap, subst, ◌∙◌, arith}
-use Rattle.std.specs.Prelude.{◌≢◌, Contains, IfOk, IsErr, IsSome, String, string_bytes}
+use Rattle.std.proofs.Common.{◌≡◌, ℕ, zero, suc, ◌+◌, ◌<◌, List, [], ◌∷◌, ◌++◌, length, take, drop, get_or, refl, ap, arith, ◌∙◌, sym, Option, Some, None, true, false, ◌≤◌, Result, Ok, Err, inl, inr, subst}
+use Rattle.std.specs.Prelude.{String, string_bytes, IsSome, ◌≢◌, Contains, IfOk, IsErr}
 use Rattle.std.specs.declared.alloc.Global.{Global}
-use Rattle.std.proofs.lemmas.List.{take_all}
 use Rattle.std.proofs.lemmas.List.Elements.{Contains-append_left, Contains-append_right}
-use Rattle.avtp_base.proofs.Told.{Appends-nil}
-use Rattle.avtp_base.specs.declared.failed.Failed.{Failed}
-use Rattle.avtp_base.specs.Faults.{Rose}
-use Rattle.avtp_base.specs.Files.{Files, IsMissing, KeepsFiles}
-use Rattle.avtp_base.specs.States.{ShelfState, SinkState, WasAsked}
-use Rattle.sample_schedule.specs.declared.shown.Shown.{Shown}
-use Rattle.avtp_text.specs.Written.{written}
+use Rattle.std.proofs.lemmas.List.{take_all}
 use Rattle.option_words.specs.Word.{texts}
+use Rattle.avtp_base.specs.Files.{Files, KeepsFiles, IsMissing}
+use Rattle.avtp_base.specs.Faults.{Rose}
+use Rattle.sample_schedule.specs.declared.shown.Shown.{Shown}
+use Rattle.avtp_base.specs.States.{ShelfState, SinkState, WasAsked}
 use Rattle.capture_io.specs.Reads.{OnlyReads}
+use Rattle.avtp_base.proofs.Told.{Appends-nil}
 use Rattle.capture_io.proofs.Leaving.{only_reads_nothing, only_reads_then}
-use Rattle.avtp_tool.specs.declared.status.Status.{Status}
-use Rattle.avtp_tool.specs.declared.status.Status.TheVariants as status
-use Rattle.avtp_tool.specs.Outcome.{is_done}
-use Rattle.avtp_tool.specs.state.Outcome.{CountsReading, IsDone, KeepsSink, TellsYield}
-use Rattle.avtp_tool.specs.Reading.{InOrder, joined, one_outcome, one_status, one_yield, ReadPlan, Report}
-use Rattle.avtp_tool.specs.state.Reading.{DoesFile, DoesFiles, is_of_reading}
-use Rattle.avtp_tool.specs.Yield.{says, Yield}
-use Rattle.avtp_tool.specs.state.Yield.{Gives, HandsNothing}
-use Rattle.avtp_tool.proofs.Yields.{gives_as, Joins, part_as, part_whole}
-use Rattle.avtp_tool.proofs.InOrder.{all_done, none_read, order_weaker, tells_done, tells_stopped}
-use Rattle.avtp_tool.proofs.OneFile.{file_here, file_weaker}
-use Rattle.avtp_tool.proofs.Outcomes.{counts_failed, sink_failed, sink_ok, sink_then, tells_err}
+use Rattle.avtp_base.specs.declared.failed.Failed.{Failed}
+use Rattle.avtp_text.specs.Written.{written}
+use Rattle.run_report.specs.declared.status.Status.{Status}
+use Rattle.run_report.specs.Reading.{InOrder, one_outcome, ReadPlan, joined, DoesFile, one_status, one_yield, DoesFiles, is_of_reading, Report}
+use Rattle.run_report.specs.Yield.{Yield, Gives, says, HandsNothing}
+use Rattle.run_report.specs.Outcome.{is_done, CountsReading, TellsYield, IsDone, KeepsSink}
+use Rattle.run_report.proofs.InOrder.{none_read, order_weaker, all_done, tells_done, tells_stopped}
+use Rattle.run_report.proofs.OneFile.{file_weaker, file_here}
+use Rattle.run_report.proofs.Yields.{Joins, part_whole, gives_as, part_as}
+use Rattle.run_report.proofs.Outcomes.{sink_then, sink_ok, counts_failed, sink_failed, tells_err}
+use Rattle.run_report.specs.declared.status.Status.TheVariants as status
 
 -- ---- names
 

@@ -1,32 +1,30 @@
 -- The lines of a capture's records, and what `show` prints of them.
-use Rattle.std.proofs.Common.{◌≡◌, ℕ, ◌+◌, List, [], ◌∷◌, ◌++◌, length, take, Option, Some, Result, refl, sym, ap, subst, ◌∙◌, arith, length-append}
+use Rattle.std.proofs.Common.{◌≡◌, ℕ, List, length, Option, [], refl, sym, subst, ◌+◌, ◌∷◌, ◌++◌, ap, ◌∙◌, arith, length-append, Result, take, Some}
 use Rattle.avtp_base.specs.Told.{Appends}
-use Rattle.avtp_base.proofs.Told.{Appends-nil, Appends-trans}
 use Rattle.pcap_frames.specs.Capture.{Record}
-use Rattle.capture_io.specs.Formats.{records_in}
-use Rattle.avtp_text.specs.Show.{frame_line}
-use Rattle.avtp_text.specs.Written.{AppendsPrefix}
-use Rattle.avtp_text.proofs.Printing.{prefix_before}
 use Rattle.capture_io.specs.Source.{HasGiven, Sourcing}
-use Rattle.avtp_tool.specs.Record.{record_content}
-use Rattle.capture_io.specs.Ends.{end_of}
+use Rattle.avtp_base.proofs.Told.{Appends-nil, Appends-trans}
+use Rattle.avtp_text.specs.Show.{frame_line}
 use Rattle.avtp_base.specs.declared.failed.Failed.{Failed}
 use Rattle.avtp_base.specs.States.{SinkState}
-use Rattle.avtp_text.specs.Written.{written}
+use Rattle.avtp_text.specs.Written.{written, AppendsPrefix}
+use Rattle.capture_io.specs.Formats.{records_in}
+use Rattle.avtp_text.proofs.Printing.{prefix_before}
+use Rattle.capture_io.specs.Ends.{end_of}
+use Rattle.run_report.specs.Lines.{of_each}
+use Rattle.run_report.proofs.Lines.{each_none, each_more}
+use Rattle.run_report.specs.declared.status.Status.{Status}
+use Rattle.run_report.specs.Outcome.{EndsWith}
+use Rattle.run_report.specs.Yield.{says, HandsNothing, GivesPart}
+use Rattle.run_report.specs.Status.{status_of}
+use Rattle.run_report.proofs.DoesFile.{IsReadAndTold}
+use Rattle.run_report.proofs.Outcomes.{tells_end}
+use Rattle.run_report.specs.Reading.{file_yield}
+use Rattle.run_report.proofs.Yields.{part_text}
+use Rattle.avtp_tool.specs.Show.{show_line, end_line, show_report}
+use Rattle.avtp_tool.specs.Record.{record_content}
 use Rattle.avtp_tool.specs.declared.show.Printed.{Printed}
-use Rattle.avtp_tool.specs.declared.status.Status.{Status}
-use Rattle.avtp_tool.specs.state.Outcome.{EndsWith}
-use Rattle.avtp_tool.specs.Reading.{file_yield}
-use Rattle.avtp_tool.specs.Yield.{says}
-use Rattle.avtp_tool.specs.state.Yield.{GivesPart, HandsNothing}
-use Rattle.avtp_tool.proofs.Yields.{part_text}
-use Rattle.avtp_tool.specs.Show.{end_line, show_line, show_report}
 use Rattle.avtp_tool.specs.state.Show.{HasPrinted}
-use Rattle.avtp_tool.specs.Lines.{of_each}
-use Rattle.avtp_tool.specs.Status.{status_of}
-use Rattle.avtp_tool.proofs.DoesFile.{IsReadAndTold}
-use Rattle.avtp_tool.proofs.Lines.{each_more, each_none}
-use Rattle.avtp_tool.proofs.Outcomes.{tells_end}
 
 -- The records that a source gave were printed and counted.
 pub record IsPrintedTo (limit : ℕ) (bytes : List ℕ) (remains : Option (List ℕ)) (source : Sourcing) (frames : ℕ) (before now : Option (List ℕ)) : Type 0 where

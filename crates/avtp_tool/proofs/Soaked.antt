@@ -1,24 +1,24 @@
 -- The run of `soak`, which neither reads nor writes a file.
-use Rattle.std.proofs.Common.{false, ◌≡◌, ◌≢◌, ◌⊎◌, inl, inr, ℕ, List, [], Option, Result, Ok, Err, refl, sym, ap, subst, arith}
+use Rattle.std.proofs.Common.{inl, ℕ, List, Result, Ok, Err, refl, ◌≡◌, ◌≢◌, ◌⊎◌, inr, [], sym, subst, Option, false, ap, arith}
 use Rattle.std.specs.Prelude.{IfOk}
 use Rattle.std.proofs.lemmas.List.{append-nil}
 use Rattle.avtp_base.specs.declared.failed.Failed.{Failed}
-use Rattle.avtp_base.specs.Told.{Appends}
-use Rattle.avtp_base.specs.States.{Asks, ShelfState, SinkState, WasAsked}
+use Rattle.avtp_base.specs.States.{SinkState, Asks, ShelfState, WasAsked}
 use Rattle.avtp_text.specs.Written.{written}
+use Rattle.avtp_base.specs.Told.{Appends}
 use Rattle.avtp_words.specs.Grammar.{Request, soak}
-use Rattle.avtp_tool.specs.declared.status.Status.{Status}
-use Rattle.avtp_tool.specs.declared.status.Status.TheVariants as status
-use Rattle.avtp_tool.specs.state.Outcome.{EndsWith}
-use Rattle.avtp_tool.specs.state.Run.{Runs}
-use Rattle.avtp_tool.specs.Soak.{soak_report}
-use Rattle.avtp_tool.specs.state.Soak.{Says}
-use Rattle.avtp_tool.specs.Yield.{says as only_text}
-use Rattle.avtp_tool.specs.state.Yield.{Gives, HandsNothing}
-use Rattle.avtp_tool.proofs.PlanRuns.{no_devices, tells_all}
-use Rattle.avtp_tool.proofs.Yields.{part_text}
-use Rattle.avtp_tool.proofs.Ended.{ends_prefix}
 use Rattle.avtp_base.proofs.Files.{KeepsFiles-refl}
+use Rattle.run_report.specs.declared.status.Status.{Status}
+use Rattle.run_report.specs.Outcome.{EndsWith}
+use Rattle.run_report.specs.Yield.{says as only_text, Gives, HandsNothing}
+use Rattle.run_report.specs.Runs.{Runs}
+use Rattle.run_report.proofs.Runs.{no_devices, tells_all}
+use Rattle.run_report.proofs.Yields.{part_text}
+use Rattle.run_report.specs.declared.status.Status.TheVariants as status
+use Rattle.avtp_tool.specs.state.Soak.{Says}
+use Rattle.avtp_tool.proofs.Ended.{ends_prefix}
+use Rattle.avtp_tool.specs.Soak.{soak_report}
+use Rattle.avtp_tool.specs.state.Run.{task_of}
 
 -- ---- the line
 
@@ -54,8 +54,8 @@ quiet count (Ok s) = λ fault memory write. refl
 quiet count (Err e) = tt
 
 pub soak_runs : {s : ShelfState} {h h' : SinkState} {l l' : List ℕ} {result : Result Status Failed} (packets : ℕ) (other : Request) → soak packets ≡ other → Says (soak_report packets) h h' l l' result
-    → Runs other HandsNothing false s s h h' l l' result
-soak_runs {s} {h} {h'} {l} {l'} {result} packets other same told = subst (λ (q : Request). Runs q HandsNothing false s s h h' l l' result) same (record {
+    → Runs (task_of other) HandsNothing false s s h h' l l' result
+soak_runs {s} {h} {h'} {l} {l'} {result} packets other same told = subst (λ (q : Request). Runs (task_of q) HandsNothing false s s h h' l l' result) same (record {
   tells = λ all is some. tells_all (KeepsFiles-refl s.files) (record {
     came = [];
     ended = told.tells.ended;

@@ -1,26 +1,27 @@
 -- What the command promises: `HasRun` if the words are a command line, `RefusesWords` if they are not.
-use Rattle.std.specs.Prelude.{◌≡◌, ◌≢◌, ◌≤◌, ◌⊎◌, ◌++◌, ◌∷◌, ℕ, ℤ, List, length, take, Option, Some, None, IsSome, Bool, true, false}
+use Rattle.std.specs.Prelude.{◌≡◌, ℕ, ℤ, List, take, Some, ◌≢◌, ◌++◌, ◌∷◌, Option, Bool, true, false, ◌≤◌, ◌⊎◌, None, IsSome}
 use mathlib.Core.List.{IsPrefix}
 use Rattle.avtp_base.specs.Faults.{IsQuiet, Rose}
+use Rattle.avtp_base.specs.States.{ShelfState, Asks, SinkState}
 use Rattle.avtp_base.specs.Files.{Files}
-use Rattle.avtp_base.specs.States.{Asks, ShelfState, SinkState}
-use Rattle.avtp_base.specs.Told.{Appends}
 use Rattle.capture_io.specs.Formats.{records_in}
 use Rattle.packet_journal.specs.Packets.{PacketJournal}
-use Rattle.sample_schedule.specs.declared.shown.Shown.{Shown}
 use Rattle.listener.specs.Laws.{HearsTalker}
-use Rattle.avtp_text.specs.Notices.{words_line}
+use Rattle.avtp_words.specs.Grammar.{agree, Agreeing, Request, gateway, listen, Listening, output_of, Turning, files_of}
+use Rattle.avtp_base.specs.Told.{Appends}
+use Rattle.sample_schedule.specs.declared.shown.Shown.{Shown}
 use Rattle.avtp_text.specs.Written.{AppendsPrefix, Grows}
-use Rattle.avtp_words.specs.Grammar.{agree, Agreeing, files_of, gateway, listen, Listening, output_of, Request, Turning}
-use Rattle.avtp_tool.specs.declared.status.Status.{Status}
-use Rattle.avtp_tool.specs.declared.status.Status.TheVariants as status
-use Rattle.avtp_tool.specs.Agree.{HasAgreement}
-use Rattle.avtp_tool.specs.Gateway.{KeepsInput}
-use Rattle.avtp_tool.specs.Listen.{HasHeadline, plan_of}
-use Rattle.avtp_tool.specs.Made.{KeepsFilesBut, KeepsSlotsFor, MakesOutput, MakesPart}
-use Rattle.avtp_tool.specs.Outcome.{AsksFor, IsOneMissing}
-use Rattle.avtp_tool.specs.Run.{came_for, is_listening, is_through, made_for, names_of, Outcome, status_for, yield_for}
-use Rattle.avtp_tool.specs.Yield.{Yield}
+use Rattle.avtp_text.specs.Notices.{words_line}
+use Rattle.run_report.specs.Listener.{plan_of}
+use Rattle.run_report.specs.declared.status.Status.{Status}
+use Rattle.run_report.specs.Made.{MakesOutput, MakesPart, KeepsFilesBut, KeepsSlotsFor}
+use Rattle.run_report.specs.Yield.{Yield}
+use Rattle.run_report.specs.Outcome.{IsOneMissing, AsksFor, is_through}
+use Rattle.run_report.specs.declared.status.Status.TheVariants as status
+use Rattle.listen_command.specs.Listen.{HasHeadline}
+use Rattle.agree_command.specs.Agree.{HasAgreement}
+use Rattle.gateway_command.specs.Gateway.{KeepsInput}
+use Rattle.avtp_tool.specs.Run.{came_for, made_for, Outcome, status_for, yield_for, is_listening, names_of}
 
 -- ---- what is printed and given to devices
 

@@ -1,17 +1,6 @@
-pub mod Status
 pub mod Record
-pub mod Yield
-pub mod Outcome
-pub mod Reading
-pub mod Made
-pub mod Lines
 pub mod Show
-pub mod Check
-pub mod Listen
-pub mod Talk
 pub mod Soak
-pub mod Agree
-pub mod Gateway
 pub mod DeviceWords
 pub mod Run
 pub mod HasRun

@@ -1,21 +1,17 @@
 -- What `show` says of a record: the text after the record's number and arrival, up to the end of its line.
-use Rattle.std.specs.Prelude.{ℕ, ◌+◌, ◌==◌, List, Option, Some, None, if◌then◌else◌}
+use Rattle.std.specs.Prelude.{ℕ, List, Option, Some, None, ◌==◌, if◌then◌else◌}
 use Rattle.std.specs.Option.{option_map}
 use Rattle.avtp_base.specs.declared.refusal.Refusal.{Refusal}
+use Rattle.avtp_text.specs.Show.{refused_content, other_content, iec_content, aaf_content, h264_content, crf_content, ethertype_content}
+use Rattle.avtp_packet.specs.Packet.{AnyPacket, OfAaf, OfCrf, OfH264, OfIec, OfOther, packet_of, packet_refusal}
 use Rattle.pcap_frames.specs.Frame.{Frame, frame_refusal, frame_of}
 use Rattle.packet_journal.specs.Deliveries.{avtp_ethertype}
-use Rattle.avtp_packet.specs.Packet.{AnyPacket, OfAaf, OfCrf, OfH264, OfIec, OfOther, packet_of, packet_refusal}
-use Rattle.avtp_text.specs.Show.{refused_content, ethertype_content, other_content, iec_content, aaf_content, h264_content, crf_content}
+use Rattle.run_report.specs.Frame.{inside}
 
 -- the text of the refusal if there is one, otherwise the text of what was read
 abbrev pub refused_or : Option Refusal → List ℕ → List ℕ
 refused_or (Some refusal) content = refused_content refusal
 refused_or None content = content
-
--- A refusal in a frame's payload, with the offset of the refused field counted from the start of the frame. The payload
--- begins at offset `start`.
-abbrev pub inside : ℕ → Refusal → Refusal
-inside start refusal = record refusal { at = refusal.at + start }
 
 -- what `show` says of a packet's fields, depending on its format
 abbrev pub fields_content : AnyPacket → List ℕ

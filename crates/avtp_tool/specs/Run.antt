@@ -1,46 +1,19 @@
 -- The possible outcomes of a run of any command.
-use Rattle.std.specs.Prelude.{◌≡◌, ℕ, List, [], ◌∷◌, ◌++◌, if◌then◌else◌, Option, None, option_to_list, Bool, true, false}
+use Rattle.std.specs.Prelude.{◌≡◌, ℕ, List, [], Option, None, Bool, ◌∷◌, ◌++◌, option_to_list, true, false}
 use Rattle.avtp_base.specs.Files.{Files}
-use Rattle.avtp_text.specs.Notices.{device_fault_line}
-use Rattle.avtp_words.specs.Grammar.{files_of, output_of, Request, show, check, listen, talk, soak, agree, gateway, Listening, Talking}
-use Rattle.avtp_tool.specs.declared.status.Status.{Status}
-use Rattle.avtp_tool.specs.declared.status.Status.TheVariants as status
-use Rattle.avtp_tool.specs.Agree.{AgreeOutcome, agree_came, agree_ended, agree_report}
-use Rattle.avtp_tool.specs.Check.{check_plan}
-use Rattle.avtp_tool.specs.Gateway.{GatewayOutcome, gateway_came, gateway_ended, gateway_made, gateway_report}
-use Rattle.avtp_tool.specs.Listen.{listen_plan}
-use Rattle.avtp_tool.specs.Outcome.{is_done, Only}
-use Rattle.avtp_tool.specs.Reading.{PlanOutcome, plan_read, plan_status, plan_yield}
+use Rattle.avtp_words.specs.Grammar.{Request, show, check, listen, talk, soak, agree, gateway, files_of, output_of}
+use Rattle.run_report.specs.declared.status.Status.{Status}
+use Rattle.run_report.specs.Outcome.{Only}
+use Rattle.run_report.specs.Reading.{PlanOutcome, plan_status, plan_yield, plan_read}
+use Rattle.run_report.specs.Yield.{says, Yield, with_more}
+use Rattle.run_report.specs.declared.status.Status.TheVariants as status
+use Rattle.check_command.specs.Check.{check_plan}
+use Rattle.listen_command.specs.Listen.{ListenOutcome, listen_plan, device_status, device_notice}
+use Rattle.agree_command.specs.Agree.{AgreeYields, agree_ended, agree_report, agree_came}
+use Rattle.gateway_command.specs.Gateway.{GatewayYields, gateway_ended, gateway_report, gateway_came, gateway_made}
+use Rattle.talk_command.specs.Talk.{TalkYields, talk_made, talk_plan, talk_came, talk_status, talk_report}
 use Rattle.avtp_tool.specs.Show.{show_plan}
 use Rattle.avtp_tool.specs.Soak.{soak_report}
-use Rattle.avtp_tool.specs.Talk.{TalkOutcome, talk_made, talk_plan, talk_report, talk_status}
-use Rattle.avtp_tool.specs.Yield.{says, with_more, Yield}
-
--- the names that a run of `talk` with this status asks for: its input, and its output only if the output was made
-abbrev pub talk_came : Talking → Status → List (List ℕ)
-talk_came asked ended = asked.input ∷ (if is_done ended then asked.output ∷ [] else [])
-
--- The status of a run of `listen`, given whether a device failed and the status of reading the files. A failed device
--- changes the status only if reading the files ended with `Done`.
-abbrev pub device_status : Bool → Status → Status
-device_status true status.Done = status.DeviceFault
-device_status failed ended = ended
-
--- The last line of a run of `listen`, given whether a device failed and the status of reading the files. If a device
--- failed and reading the files ended with `Done`, the line says that a device failed; otherwise the line is empty.
-abbrev pub device_notice : Bool → Status → List ℕ
-device_notice true status.Done = device_fault_line
-device_notice failed ended = []
-
--- A possible outcome of a run of `listen` over these files. `heard` is the status of reading the files, and `given` is
--- the yield of reading them. If a device failed and `heard` is `Done`, the run's status and its last line say that a
--- device failed.
-pub record ListenOutcome (asked : Listening) (files : Files) (fault : Type 0) (failed : Bool) (came : List (List ℕ)) (ended : Status) (yields : Yield) : Type 0 where
-  pub heard : Status
-  pub given : Yield
-  pub reads : PlanOutcome (listen_plan asked) files fault came heard given
-  pub status : ended ≡ device_status failed heard
-  pub notice : yields ≡ with_more given (says (device_notice failed heard))
 
 -- The possible outcomes of a run of the request over these files: the names that the run reaches, its status, its
 -- yield, and the capture that it makes, if any. A read fault is possible only if `fault` holds. `failed` says whether a
@@ -49,12 +22,10 @@ abbrev pub Outcome : Request → Files → Type 0 → Bool → List (List ℕ) �
 Outcome (show limit file) files fault failed came ended yields made = PlanOutcome (show_plan limit file) files fault came ended yields × (made ≡ None)
 Outcome (check limit names) files fault failed came ended yields made = PlanOutcome (check_plan limit names) files fault came ended yields × (made ≡ None)
 Outcome (listen asked) files fault failed came ended yields made = ListenOutcome asked files fault failed came ended yields × (made ≡ None)
-Outcome (talk asked) files fault failed came ended yields made =
-    (came ≡ talk_came asked ended) × TalkOutcome (talk_plan asked) (files asked.input) fault ended yields.text × (yields.items ≡ [])
-    × (made ≡ talk_made (talk_plan asked) (files asked.input) ended)
+Outcome (talk asked) files fault failed came ended yields made = TalkYields asked files fault came ended yields made
 Outcome (soak packets) files fault failed came ended yields made = (came ≡ []) × Only status.Done (says (soak_report packets)) ended yields × (made ≡ None)
-Outcome (agree asked) files fault failed came ended yields made = AgreeOutcome asked files fault came ended yields.text × (yields.items ≡ []) × (made ≡ None)
-Outcome (gateway asked) files fault failed came ended yields made = GatewayOutcome asked files fault came ended yields.text made × (yields.items ≡ [])
+Outcome (agree asked) files fault failed came ended yields made = AgreeYields asked files fault came ended yields × (made ≡ None)
+Outcome (gateway asked) files fault failed came ended yields made = GatewayYields asked files fault came ended yields made
 
 -- ---- if no read fault occurs
 
@@ -111,8 +82,3 @@ names_of request = files_of request ++ (option_to_list (output_of request) ++ ag
 abbrev pub is_listening : Request → Bool
 is_listening (listen asked) = true
 is_listening request = false
-
--- the command did everything that was asked for, whether or not a device failed
-abbrev pub is_through : Status → Bool
-is_through status.DeviceFault = true
-is_through ended = is_done ended

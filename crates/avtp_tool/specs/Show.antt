@@ -1,15 +1,15 @@
 -- What `show` prints and how it ends.
-use Rattle.std.specs.Prelude.{ℕ, ◌+◌, List, [], ◌∷◌, ◌++◌, length}
+use Rattle.std.specs.Prelude.{ℕ, ◌+◌, List, length, ◌++◌, [], ◌∷◌}
 use Rattle.pcap_frames.specs.Capture.{Record}
-use Rattle.avtp_text.specs.Notices.{capture_refused_line, read_fault_line, limit_line}
 use Rattle.avtp_text.specs.Show.{frame_line, end_frames_line}
+use Rattle.avtp_text.specs.Notices.{capture_refused_line, read_fault_line, limit_line}
 use Rattle.capture_io.specs.declared.end.End.{End}
 use Rattle.capture_io.specs.declared.end.End.TheVariants as end
-use Rattle.avtp_tool.specs.Lines.{of_each}
-use Rattle.avtp_tool.specs.Reading.{ReadPlan, Report}
+use Rattle.run_report.specs.Lines.{of_each}
+use Rattle.run_report.specs.Reading.{Report, ReadPlan}
+use Rattle.run_report.specs.Status.{status_of}
+use Rattle.run_report.specs.Yield.{says}
 use Rattle.avtp_tool.specs.Record.{record_content}
-use Rattle.avtp_tool.specs.Status.{status_of}
-use Rattle.avtp_tool.specs.Yield.{says}
 
 -- the line of the record `r`, which follows the records `earlier`
 abbrev pub show_line : List Record → Record → List ℕ

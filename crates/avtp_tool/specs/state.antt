@@ -1,19 +1,5 @@
 -- Only private functions and proofs use these definitions.
-pub mod Agree
-pub mod Check
-pub mod Comparing
 pub mod Files
-pub mod Gateway
-pub mod Hearing
-pub mod Listen
-pub mod Made
-pub mod Outcome
-pub mod Presenting
-pub mod Reading
 pub mod Run
-pub mod Scanning
 pub mod Show
 pub mod Soak
-pub mod Talk
-pub mod Turning
-pub mod Yield

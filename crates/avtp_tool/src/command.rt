@@ -1,30 +1,31 @@
 //! The command `avtp`, over any shelf, sink and devices.
 
-ghost use Rattle.std.specs.Prelude.{◌≡◌, ℕ, Ok, true, false, nat_lt};
-ghost use Rattle.avtp_text.specs.Notices.{read_fault_line, words_line};
+ghost use Rattle.std.specs.Prelude.{◌≡◌, ℕ, Ok, false, nat_lt};
+ghost use Rattle.avtp_text.specs.Notices.{words_line};
 ghost use Rattle.avtp_words.specs.Grammar.{IsCommandLine, IsOffence, Request};
 ghost use Rattle.option_words.specs.Word.{texts};
 ghost use Rattle.avtp_tool.specs.HasRun.{HasRun, RefusesWords};
-ghost use Rattle.avtp_tool.specs.state.Outcome.{EndsUnopened, EndsWith, Finishes, KeepsSink};
+ghost use Rattle.run_report.specs.Outcome.{EndsWith, KeepsSink};
 ghost use Rattle.avtp_tool.specs.Run.{is_listening};
-ghost use Rattle.avtp_tool.specs.state.Run.{IsAsked, Runs};
-ghost use Rattle.avtp_tool.specs.Yield.{HandsOn};
+ghost use Rattle.avtp_tool.specs.state.Run.{Finishes, IsAsked, task_of};
+ghost use Rattle.run_report.specs.Runs.{Runs};
+ghost use Rattle.run_report.specs.Yield.{HandsOn};
 
-use crate::agree::agree;
 use crate::files::{Reading, hear_files, read_files};
-use crate::gateway::gateway;
 use crate::show::show;
 use crate::soak::soak;
-use crate::status::Status;
-use crate::talk::talk;
-use avtp_base::{Failed, OpenFault};
+use agree_command::agree;
+use avtp_base::Failed;
 use avtp_files::{Shelf, Sink};
 use avtp_text::Text;
 use avtp_words::{Command, parse};
 use device_rack::Devices;
+use gateway_command::gateway;
 use presenter_ring::Gate;
+use run_report::Status;
 use std::alloc::Global;
 use std::thread::Threads;
+use talk_command::talk;
 
 /// Does what the words ask for, and returns the status. The run reads and writes the files that the words name, writes
 /// the text, and gives the devices the items that `listen` shows.
@@ -62,7 +63,7 @@ fn execute<T: Threads + Sync, F: Shelf + Send, S: Sink + Send, G: Gate, D: Devic
     gate: &G,
     rack: &mut D,
 ) -> Result<Status, Failed>
-    ensures runs { (request : Request) → IsCommandLine (texts words.now) request → Runs request (HandsOn D.handed rack.old rack.new) (nat_lt (D.failures rack.old) (D.failures rack.new)) (F.state shelf.old) (F.state shelf.new) (S.state out.old) (S.state out.new) text.old text.new result }
+    ensures runs { (request : Request) → IsCommandLine (texts words.now) request → Runs (task_of request) (HandsOn D.handed rack.old rack.new) (nat_lt (D.failures rack.old) (D.failures rack.new)) (F.state shelf.old) (F.state shelf.new) (S.state out.old) (S.state out.new) text.old text.new result }
     ensures words { (position : ℕ) → IsOffence (texts words.now) position →
         (shelf.new ≡ shelf.old) × (rack.new ≡ rack.old) × EndsWith Status.Words (S.state out.old) (S.state out.new) text.old text.new result (words_line position) }
     ensures either { IsAsked (texts words.now) }
@@ -97,29 +98,6 @@ fn print_offence<S: Sink>(text: &mut Text, out: &mut S, position: u64) -> Result
 {
     text.words(out, position)?;
     Ok(Status::Words)
-}
-
-/// Prints that a file could not be read.
-pub fn print_fault<S: Sink>(text: &mut Text, out: &mut S) -> Result<Status, Failed>
-    ensures { EndsWith Status.ReadFault (S.state out.old) (S.state out.new) text.old text.new result read_fault_line }
-{
-    text.read_fault(out)?;
-    Ok(Status::ReadFault)
-}
-
-/// Prints that a file could not be opened. If memory ran out, nothing is printed, and the status says so.
-pub fn print_unopened<S: Sink>(
-    text: &mut Text,
-    out: &mut S,
-    fault: OpenFault,
-) -> Result<Status, Failed>
-    ensures { EndsUnopened fault (S.state out.old) (S.state out.new) text.old text.new result }
-{
-    match fault {
-        OpenFault::Memory => Ok(Status::Memory),
-        OpenFault::Missing => print_fault(text, out),
-        OpenFault::Failed => print_fault(text, out),
-    }
 }
 
 /// Writes the text that is still pending.

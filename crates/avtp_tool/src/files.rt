@@ -1,24 +1,26 @@
 //! Files that are read one after another.
 
 ghost use Rattle.std.specs.Prelude.{◌≡◌, false, nat_lt};
-ghost use Rattle.avtp_tool.specs.Yield.{HandsOn};
+ghost use Rattle.run_report.specs.Yield.{HandsOn};
 ghost use Rattle.avtp_words.specs.Grammar.{listen as listen_request, listening_of};
 ghost use Rattle.option_words.specs.Word.{texts};
 ghost use Rattle.avtp_tool.specs.state.Files.{is_hearing, IsReading, limit_for, plan_for, report_for};
 ghost use Rattle.avtp_text.specs.Notices.{device_fault_line};
-ghost use Rattle.avtp_tool.specs.state.Outcome.{EndsWith};
-ghost use Rattle.avtp_tool.specs.state.Reading.{DoesFile, DoesFiles};
-ghost use Rattle.avtp_tool.specs.state.Run.{IsListening, Runs};
+ghost use Rattle.run_report.specs.Outcome.{EndsWith};
+ghost use Rattle.run_report.specs.Reading.{DoesFile, DoesFiles};
+ghost use Rattle.listen_command.specs.Listen.{IsListening};
+ghost use Rattle.run_report.specs.Runs.{Runs};
+ghost use Rattle.avtp_tool.specs.state.Run.{task_of};
 
-use crate::check::check;
-use crate::listen::listen;
-use crate::status::Status;
 use avtp_base::Failed;
 use avtp_files::{Shelf, Sink};
 use avtp_text::Text;
 use avtp_words::Listen;
+use check_command::check;
 use device_rack::Devices;
+use listen_command::listen;
 use presenter_ring::Gate;
+use run_report::Status;
 use std::alloc::Global;
 use std::thread::Threads;
 
@@ -71,7 +73,7 @@ pub fn hear_files<T: Threads + Sync, F: Shelf + Send, S: Sink + Send, G: Gate, D
     rack: &mut D,
 ) -> Result<Status, Failed>
     requires { IsListening (listening_of asked.now) }
-    ensures { Runs (listen_request (listening_of asked.now)) (HandsOn D.handed rack.old rack.new) (nat_lt (D.failures rack.old) (D.failures rack.new)) (F.state shelf.old) (F.state shelf.new) (S.state out.old) (S.state out.new) text.old text.new result }
+    ensures { Runs (task_of (listen_request (listening_of asked.now))) (HandsOn D.handed rack.old rack.new) (nat_lt (D.failures rack.old) (D.failures rack.new)) (F.state shelf.old) (F.state shelf.new) (S.state out.old) (S.state out.new) text.old text.new result }
 {
     let failed = rack.count_failed();
     let reading = Reading::Listen(asked);

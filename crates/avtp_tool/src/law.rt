@@ -3,7 +3,7 @@
 ghost use Rattle.std.specs.Prelude.{◌≡◌, ℕ, List, Some, take, true};
 ghost use Rattle.capture_io.specs.Ends.{end_of};
 ghost use Rattle.capture_io.specs.Formats.{AreBytes, as_classic, is_pcapng, records_in};
-ghost use Rattle.avtp_tool.specs.Reading.{file_status, file_yield, Report};
+ghost use Rattle.run_report.specs.Reading.{file_status, file_yield, Report};
 
 /// `show`, `check` and `listen` report a pcapng capture in the same way as a little-endian classic capture that has
 /// nanosecond timestamps and the same records. Only one thing depends on the pcapng file itself: how the reading ends.

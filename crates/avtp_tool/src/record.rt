@@ -1,16 +1,17 @@
 //! One record of a capture, as `show` prints it.
 
-ghost use Rattle.std.specs.Prelude.{◌≡◌, ◌+◌, ◌^◌, ◌<◌};
+ghost use Rattle.std.specs.Prelude.{◌^◌, ◌<◌};
 ghost use Rattle.avtp_text.specs.Show.{frame_line};
 ghost use Rattle.avtp_text.specs.Written.{Prints};
-ghost use Rattle.avtp_tool.specs.Record.{record_content, packet_content, inside};
+ghost use Rattle.avtp_tool.specs.Record.{record_content, packet_content};
 
-use avtp_base::{Failed, Refusal};
+use avtp_base::Failed;
 use avtp_files::Sink;
 use avtp_header::ETHERTYPE;
 use avtp_packet::{Packet, read_packet};
 use avtp_text::Text;
 use pcap_frames::{FrameView, RecordView, read_frame};
+use run_report::in_frame;
 
 /// Prints the line of a record: its number in the capture, its arrival and what it holds. Records are counted from 1.
 #[tactic(auto, unfolding(crate::specs::Record::record_content, crate::specs::Record::frame_content))]
@@ -53,16 +54,5 @@ fn print_packet<S: Sink>(
         Ok(Packet::H264(view)) => text.frame_h264(out, number, arrival, &view),
         Ok(Packet::Crf(view)) => text.frame_crf(out, number, arrival, &view),
         Ok(Packet::Other(subtype)) => text.frame_other(out, number, arrival, subtype),
-    }
-}
-
-/// A refusal in a frame's payload, with the offset of the refused field counted from the start of the frame.
-pub fn in_frame(frame: &FrameView<'_>, refusal: Refusal) -> Refusal
-    requires { refusal.at + frame.now.start < 2 ^ 64 }
-    ensures { result ≡ inside frame.now.start refusal }
-{
-    Refusal {
-        at: refusal.at + frame.start as u64,
-        ..refusal
     }
 }

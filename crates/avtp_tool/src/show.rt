@@ -1,21 +1,19 @@
 //! The command `show`: what each record of a capture holds.
 
 ghost use Rattle.std.specs.Prelude.{◌^◌, ◌≤◌};
-ghost use Rattle.avtp_tool.specs.state.Outcome.{EndsWith};
-ghost use Rattle.avtp_tool.specs.state.Reading.{DoesFile, IsOpen, ReadsRecords};
+ghost use Rattle.run_report.specs.Outcome.{EndsWith};
+ghost use Rattle.run_report.specs.Reading.{DoesFile, IsOpen, ReadsRecords};
 ghost use Rattle.avtp_tool.specs.Show.{end_line, show_report};
 ghost use Rattle.avtp_tool.specs.state.Show.{PrintsRecords};
-ghost use Rattle.avtp_tool.specs.state.Yield.{HandsNothing};
-ghost use Rattle.avtp_tool.specs.Status.{status_of};
+ghost use Rattle.run_report.specs.Yield.{HandsNothing};
+ghost use Rattle.run_report.specs.Status.{status_of};
 
-use crate::ahead::next_record;
-use crate::command::print_unopened;
 use crate::record::print_record;
-use crate::status::Status;
 use avtp_base::Failed;
 use avtp_files::{Shelf, Sink};
 use avtp_text::Text;
 use capture_io::{End, Source};
+use run_report::{Status, next_record, print_unopened};
 use std::alloc::Global;
 
 /// How many records of a capture were printed, and how its reading ended.

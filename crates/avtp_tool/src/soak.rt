@@ -2,14 +2,14 @@
 
 ghost use Rattle.std.specs.Prelude.{◌≤◌};
 ghost use Rattle.avtp_text.specs.Soak.{soak_line};
-ghost use Rattle.avtp_tool.specs.state.Outcome.{EndsWith};
+ghost use Rattle.run_report.specs.Outcome.{EndsWith};
 ghost use Rattle.avtp_tool.specs.Soak.{soak_report};
 ghost use Rattle.avtp_tool.specs.state.Soak.{Says};
 
-use crate::status::Status;
 use avtp_base::{Failed, NoMemory};
 use avtp_files::Sink;
 use avtp_text::Text;
+use run_report::Status;
 use soak_run::SoakCounts;
 use std::alloc::Global;
 use std::thread::Threads;

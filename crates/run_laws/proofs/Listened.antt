@@ -25,16 +25,18 @@ use Rattle.talked_presented.specs.Whole.{ArePresented, default_listener}
 use Rattle.avtp_words.specs.Grammar.{listen, Listening}
 use Rattle.option_words.specs.Word.{IsId, IsName}
 use Rattle.avtp_text.specs.Notices.{read_fault_line}
-use Rattle.avtp_tool.specs.declared.status.Status.{Status}
-use Rattle.avtp_tool.specs.declared.status.Status.TheVariants as status
-use Rattle.avtp_tool.specs.Listen.{YieldsHeadline, is_cut_short, listen_plan, listen_report, plan_of, shown_by}
-use Rattle.avtp_tool.specs.Outcome.{is_done}
-use Rattle.avtp_tool.specs.Reading.{file_status, file_yield, in_order_read, in_order_status, in_order_yield, one_status, one_yield}
-use Rattle.avtp_tool.specs.Run.{device_status}
-use Rattle.avtp_tool.specs.Status.{status_of}
-use Rattle.avtp_tool.specs.Yield.{Yield, says}
+use Rattle.run_report.specs.declared.status.Status.{Status}
+use Rattle.run_report.specs.declared.status.Status.TheVariants as status
+use Rattle.run_report.specs.Listener.{plan_of}
+use Rattle.capture_hearing.specs.Shown.{shown_by}
+use Rattle.listen_command.specs.Listen.{YieldsHeadline, is_cut_short, listen_plan, listen_report}
+use Rattle.run_report.specs.Outcome.{is_done}
+use Rattle.run_report.specs.Reading.{file_status, file_yield, in_order_read, in_order_status, in_order_yield, one_status, one_yield}
+use Rattle.listen_command.specs.Listen.{device_status}
+use Rattle.run_report.specs.Status.{status_of}
+use Rattle.run_report.specs.Yield.{Yield, says}
 use Rattle.avtp_tool.proofs.Ended.{quiet_not}
-use Rattle.avtp_tool.proofs.GatewayRun.{by_end}
+use Rattle.run_report.proofs.OneFile.{by_end}
 use Rattle.run_laws.specs.Defaults.{listen_default, listen_words}
 use Rattle.run_laws.specs.Runs.{GaveAll, Ran}
 use Rattle.run_laws.proofs.Words.{listens}

@@ -12,10 +12,10 @@ use Rattle.talker.specs.Frames.{capture}
 use Rattle.talked_presented.specs.Examples.{plain}
 use Rattle.avtp_words.specs.Grammar.{talk}
 use Rattle.option_words.specs.Word.{IsName}
-use Rattle.avtp_tool.specs.declared.status.Status.{Status}
-use Rattle.avtp_tool.specs.declared.status.Status.TheVariants as status
-use Rattle.avtp_tool.specs.Made.{MakesOutput}
-use Rattle.avtp_tool.specs.Talk.{TalkOutcome, TalkedOutcome, talk_made, talk_status}
+use Rattle.run_report.specs.declared.status.Status.{Status}
+use Rattle.run_report.specs.declared.status.Status.TheVariants as status
+use Rattle.run_report.specs.Made.{MakesOutput}
+use Rattle.talk_command.specs.Talk.{TalkOutcome, TalkedOutcome, talk_made, talk_status}
 use Rattle.run_laws.specs.Defaults.{talk_default, talk_words}
 use Rattle.run_laws.specs.Runs.{Ran}
 use Rattle.run_laws.proofs.Words.{talks}

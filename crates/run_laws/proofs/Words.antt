@@ -9,7 +9,7 @@ use Rattle.option_words.specs.Word.{BeginsWithDash, IsId, IsName}
 use Rattle.option_words.proofs.Operands.{id_name}
 use Rattle.option_words.proofs.Settings.{name-dash}
 use Rattle.talked_presented.specs.Examples.{plain}
-use Rattle.avtp_tool.specs.Talk.{talk_plan}
+use Rattle.talk_command.specs.Talk.{talk_plan}
 use Rattle.run_laws.specs.Defaults.{listen_default, listen_words, talk_default, talk_words}
 
 no_settings : (rows : List Row) → AreSettings rows []

@@ -11,7 +11,7 @@ use Rattle.talker.specs.Frames.{capture}
 use Rattle.talker.specs.Journal.{journal}
 use Rattle.talked_presented.specs.Whole.{ArePresented, default_listener}
 use Rattle.avtp_words.specs.Grammar.{IsCommandLine, Request}
-use Rattle.avtp_tool.specs.declared.status.Status.{Status}
+use Rattle.run_report.specs.declared.status.Status.{Status}
 use Rattle.avtp_tool.specs.HasRun.{HasRun, ReadsAll}
 
 -- A run with these words ended with the status `ended`. All that is known of the run is what `run` promises of one

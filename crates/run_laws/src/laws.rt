@@ -9,11 +9,11 @@ ghost use Rattle.talked_presented.specs.Examples.{plain};
 ghost use Rattle.talked_presented.specs.Whole.{HasDefaultLead, IsDefaultVideo, default_listener, unit_ends};
 ghost use Rattle.avtp_words.specs.Grammar.{IsCommandLine, listen, talk};
 ghost use Rattle.option_words.specs.Word.{IsId, IsName};
-ghost use Rattle.avtp_tool.specs.declared.status.Status.{Status};
-ghost use Rattle.avtp_tool.specs.declared.status.Status.TheVariants.{Done, Memory, WriteFault};
-ghost use Rattle.avtp_tool.specs.Listen.{plan_of};
-ghost use Rattle.avtp_tool.specs.Talk.{talk_plan};
-ghost use Rattle.avtp_tool.specs.Yield.{HandsOn};
+ghost use Rattle.run_report.specs.declared.status.Status.{Status};
+ghost use Rattle.run_report.specs.declared.status.Status.TheVariants.{Done, Memory, WriteFault};
+ghost use Rattle.run_report.specs.Listener.{plan_of};
+ghost use Rattle.talk_command.specs.Talk.{talk_plan};
+ghost use Rattle.run_report.specs.Yield.{HandsOn};
 ghost use Rattle.run_laws.specs.Defaults.{listen_default, listen_words, talk_default, talk_words};
 ghost use Rattle.run_laws.specs.Runs.{GaveAll, Ran, each_packet};
 

@@ -5,7 +5,7 @@ use crate::recipe::file_of;
 use crate::transcript::{status_of, words_of};
 use avtp_base::NoMemory;
 use avtp_memory::{MemoryShelf, MemorySink};
-use avtp_tool::Status;
+use run_report::Status;
 use device_rack::Rack;
 use std::alloc::Global;
 use std::process::Abort;

@@ -4,7 +4,7 @@ use crate::faults::{ended, one_file};
 use crate::recipe::{bytes_of, file_of};
 use crate::transcript::follow;
 use avtp_base::NoMemory;
-use avtp_tool::Status;
+use run_report::Status;
 
 const TURNED: &str = "\
 < a.raw noise:36

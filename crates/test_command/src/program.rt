@@ -5,7 +5,7 @@ use avtp_base::{Failed, NoMemory};
 use avtp_files::Sink;
 use avtp_memory::{MemoryShelf, MemorySink};
 use avtp_system::{System, run_over};
-use avtp_tool::Status;
+use run_report::Status;
 use std::alloc::Global;
 use std::sync::Arc;
 use std::sync::atomic::{AtomicU64, Ordering};

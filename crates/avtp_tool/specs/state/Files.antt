@@ -1,13 +1,12 @@
 -- Only private functions and proofs use these definitions. What a command does with each file, if it
 -- reads several files.
-use Rattle.std.specs.Prelude.{ℕ, ◌^◌, ◌≤◌, Bool, true, false, List}
+use Rattle.std.specs.Prelude.{ℕ, List, Bool, true, false, ◌^◌, ◌≤◌}
 use Rattle.avtp_words.specs.Grammar.{listening_of}
+use Rattle.run_report.specs.Reading.{Report, ReadPlan}
+use Rattle.check_command.specs.Check.{check_report}
+use Rattle.listen_command.specs.Listen.{listen_report, IsListening}
 use Rattle.avtp_tool.specs.declared.files.Reading.{Reading}
 use Rattle.avtp_tool.specs.declared.files.Reading.TheVariants.{Check, Listen}
-use Rattle.avtp_tool.specs.Check.{check_report}
-use Rattle.avtp_tool.specs.Listen.{listen_report}
-use Rattle.avtp_tool.specs.Reading.{ReadPlan, Report}
-use Rattle.avtp_tool.specs.state.Run.{IsListening}
 
 abbrev pub report_for : Reading → List ℕ → Report
 report_for (Check limit) name = check_report limit name

@@ -1,13 +1,13 @@
 -- Only private functions and proofs use these definitions. What `show` prints and how it ends.
-use Rattle.std.specs.Prelude.{◌≡◌, ℕ, List, length, take, Option, Result, Ok, Err}
+use Rattle.std.specs.Prelude.{◌≡◌, ℕ, List, length, Option, take, Result, Ok, Err}
 use Rattle.pcap_frames.specs.Capture.{Record}
-use Rattle.capture_io.specs.Formats.{records_in}
 use Rattle.capture_io.specs.Source.{EndsAfter}
-use Rattle.avtp_base.specs.declared.failed.Failed.{Failed}
 use Rattle.avtp_base.specs.Told.{Appends}
+use Rattle.capture_io.specs.Formats.{records_in}
+use Rattle.avtp_base.specs.declared.failed.Failed.{Failed}
 use Rattle.avtp_text.specs.Written.{AppendsPrefix}
+use Rattle.run_report.specs.Lines.{of_each}
 use Rattle.avtp_tool.specs.declared.show.Printed.{Printed}
-use Rattle.avtp_tool.specs.Lines.{of_each}
 use Rattle.avtp_tool.specs.Show.{show_line}
 
 -- ---- the records of a capture

@@ -2,11 +2,10 @@
 use Rattle.std.specs.Prelude.{◌≡◌, ◌⊎◌, ℕ, List, Result, IfOk}
 use Rattle.avtp_base.specs.declared.failed.Failed.{Failed}
 use Rattle.avtp_text.specs.Written.{written}
-use Rattle.avtp_tool.specs.declared.status.Status.{Status}
-use Rattle.avtp_tool.specs.declared.status.Status.TheVariants as status
-use Rattle.avtp_tool.specs.Outcome.{Only}
-use Rattle.avtp_tool.specs.state.Outcome.{KeepsSink, TellsText}
 use Rattle.avtp_base.specs.States.{SinkState}
+use Rattle.run_report.specs.declared.status.Status.{Status}
+use Rattle.run_report.specs.Outcome.{Only, KeepsSink, TellsText}
+use Rattle.run_report.specs.declared.status.Status.TheVariants as status
 
 -- A run that neither reads nor writes a file prints this text, or memory runs out.
 pub record Says (text : List ℕ) (out out' : SinkState) (waits waits' : List ℕ) (result : Result Status Failed) : Type 0 where

@@ -1,12 +1,12 @@
-use Rattle.std.proofs.Common.{false, refl, sym, ap}
-use Rattle.avtp_words.specs.Grammar.{agree, agreeing_of, check, gateway, listen, listening_of, show, soak, talk, talking_of, turning_of}
+use Rattle.std.proofs.Common.{refl, false, sym, ap}
+use Rattle.avtp_words.specs.Grammar.{talk, talking_of, listen, listening_of, show, check, soak, agree, agreeing_of, gateway, turning_of}
 use Rattle.option_words.specs.Word.{texts}
+use Rattle.run_report.proofs.Yields.{hands_nothing}
+use Rattle.avtp_tool.proofs.Asked.{requested, not_offence}
 use Rattle.avtp_tool.specs.Show.{show_plan}
-use Rattle.avtp_tool.proofs.Asked.{not_offence, requested}
 use Rattle.avtp_tool.specs.Run.{is_listening}
 use Rattle.avtp_tool.proofs.PlanRuns.{one_file, reading_runs, runs_deaf, runs_of}
 use Rattle.avtp_tool.proofs.Soaked.{soak_runs}
-use Rattle.avtp_tool.proofs.Yields.{hands_nothing}
 use Rattle.avtp_tool.proofs.command.execute.Goals as goal
 
 pub talk-requires : goal.talk-requires
@@ -75,7 +75,7 @@ pub returns-in-Ok-Agree-clause-runs : goal.returns-in-Ok-Agree-clause-runs
 returns-in-Ok-Agree-clause-runs g c request line =
     let same = rw c.in-Ok-Agree.field-0-is at (c.in-Ok-Agree.ensures.only request line) in
     runs_deaf request (ap is_listening (sym same)) (hands_nothing g.D.Devices.handed _)
-    (reading_runs (agree (agreeing_of c.in-Ok-Agree.asked)) false request same (λ all fault failed came ended yields o. (o.0, o.1, refl)) refl refl refl refl c.agree.ensures)
+    (reading_runs (agree (agreeing_of c.in-Ok-Agree.asked)) false request same (λ all fault failed came ended yields o. (o, refl)) refl refl refl refl c.agree.ensures)
 
 pub gateway-requires : goal.gateway-requires
 gateway-requires g c = requested (texts c.args.words.now) (gateway (turning_of c.in-Ok-Gateway.asked)) (rw c.in-Ok-Gateway.field-0-is at c.in-Ok-Gateway.ensures.found)

@@ -1,8 +1,8 @@
-use Rattle.std.proofs.Common.{inl, inr, refl}
-use Rattle.avtp_tool.specs.declared.status.Status.TheVariants as status
-use Rattle.avtp_tool.proofs.Yields.{hands_nothing}
+use Rattle.std.proofs.Common.{refl, inl, inr}
+use Rattle.run_report.proofs.Yields.{hands_nothing}
+use Rattle.run_report.specs.declared.status.Status.TheVariants as status
+use Rattle.avtp_tool.proofs.Promised.{no_memory, tells_nothing, has_run, refuses_words}
 use Rattle.avtp_tool.proofs.Ended.{ended_as}
-use Rattle.avtp_tool.proofs.Promised.{has_run, no_memory, refuses_words, tells_nothing}
 use Rattle.avtp_tool.proofs.command.run.Goals as goal
 
 -- ---- there was no memory for the text

@@ -1,7 +1,7 @@
-use Rattle.std.proofs.Common.{Ok, refl, ap, ◌∙◌}
+use Rattle.std.proofs.Common.{refl, Ok, ap, ◌∙◌}
 use Rattle.avtp_words.specs.Grammar.{listening_of}
-use Rattle.avtp_tool.specs.declared.status.Status.{Status}
-use Rattle.avtp_tool.proofs.HearFiles.{err_plain, failed_as, fault_runs, less_is, more_is, plain_runs}
+use Rattle.run_report.specs.declared.status.Status.{Status}
+use Rattle.avtp_tool.proofs.HearFiles.{err_plain, failed_as, plain_runs, fault_runs, less_is, more_is}
 use Rattle.avtp_tool.proofs.files.hear_files.Goals as goal
 
 pub returns-in_err-ended : goal.returns-in_err-ended

@@ -1,5 +1,5 @@
+use Rattle.run_report.proofs.Yields.{hands_nothing}
 use Rattle.avtp_tool.proofs.ReadFiles.{does_deaf}
-use Rattle.avtp_tool.proofs.Yields.{hands_nothing}
 use Rattle.avtp_tool.proofs.files.read_file.Goals as goal
 
 pub returns-in-Check-clause-does : goal.returns-in-Check-clause-does

@@ -1,16 +1,16 @@
-use Rattle.std.proofs.Common.{◌≡◌, true, Ok, get_or, refl, sym, ap, ◌∙◌}
+use Rattle.std.proofs.Common.{refl, ◌≡◌, true, get_or, sym, ap, ◌∙◌, Ok}
 use Rattle.std.specs.Prelude.{string_bytes}
 use Rattle.option_words.specs.Word.{texts}
-use Rattle.avtp_tool.specs.declared.status.Status.TheVariants as status
-use Rattle.avtp_tool.specs.declared.status.Status.{Status}
+use Rattle.run_report.proofs.Outcomes.{sink_still, sink_ok, sink_then}
+use Rattle.run_report.proofs.Yields.{hands_nothing, hands_both}
+use Rattle.run_report.specs.declared.status.Status.{Status}
+use Rattle.run_report.specs.Outcome.{is_done}
+use Rattle.run_report.specs.Yield.{HandsOn}
+use Rattle.run_report.specs.declared.status.Status.TheVariants as status
 use Rattle.avtp_tool.specs.state.Files.{plan_for}
-use Rattle.avtp_tool.specs.Outcome.{is_done}
-use Rattle.avtp_tool.proofs.Outcomes.{sink_ok, sink_still, sink_then}
-use Rattle.avtp_tool.proofs.ReadFiles.{does_failed, never_done, other_ends, reads_all, reads_more, reads_none, reads_stopped}
-use Rattle.avtp_tool.proofs.files.read_files.Goals as goal
-use Rattle.avtp_tool.specs.Yield.{HandsOn}
-use Rattle.avtp_tool.proofs.Yields.{hands_both, hands_nothing}
+use Rattle.avtp_tool.proofs.ReadFiles.{reads_none, does_failed, never_done, reads_stopped, other_ends, reads_more, reads_all}
 use Rattle.avtp_tool.proofs.files.read_files.Goals.{in-Done, in-Findings}
+use Rattle.avtp_tool.proofs.files.read_files.Goals as goal
 
 pub loop-file-init : goal.loop-file-init
 loop-file-init g c = record { kept = λ deaf. refl; sink = sink_still _ tt; reads = reads_none (plan_for c.args.reading.now (texts c.args.files.now)) (hands_nothing g.D.Devices.handed _) }

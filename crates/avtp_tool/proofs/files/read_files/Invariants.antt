@@ -1,9 +1,9 @@
 use Rattle.std.proofs.Common.{◌≡◌, false, Ok, take}
 use Rattle.avtp_text.specs.Written.{written}
 use Rattle.option_words.specs.Word.{texts}
-use Rattle.avtp_tool.specs.Yield.{HandsOn}
+use Rattle.run_report.specs.Yield.{HandsOn}
+use Rattle.run_report.specs.Outcome.{KeepsSink}
 use Rattle.avtp_tool.specs.state.Files.{is_hearing, plan_for}
-use Rattle.avtp_tool.specs.state.Outcome.{KeepsSink}
 use Rattle.avtp_tool.proofs.ReadFiles.{ReadsTo}
 use Rattle.avtp_tool.proofs.files.read_files.Given as goal
 

@@ -1,11 +1,11 @@
 use Rattle.avtp_base.proofs.Told.{Appends-kept}
-use Rattle.avtp_tool.specs.Lines.{of_each}
-use Rattle.avtp_tool.specs.state.Reading.{ReadsRecords}
-use Rattle.avtp_tool.specs.Show.{show_line}
-use Rattle.avtp_tool.proofs.Leaving.{amid_begun, amid_cut, amid_ends, amid_next, amid_over, none_left, on_err, some_same}
-use Rattle.avtp_tool.proofs.Outcomes.{sink_err, sink_ok, sink_printed, sink_still, sink_then}
-use Rattle.avtp_tool.proofs.Lines.{each_first, prefix_kept, some_first}
+use Rattle.run_report.proofs.Leaving.{amid_begun, amid_next, none_left, some_same, amid_ends, amid_over, amid_cut, on_err}
+use Rattle.run_report.proofs.Outcomes.{sink_still, sink_printed, sink_then, sink_ok, sink_err}
+use Rattle.run_report.specs.Lines.{of_each}
+use Rattle.run_report.specs.Reading.{ReadsRecords}
+use Rattle.run_report.proofs.Lines.{each_first, prefix_kept, some_first}
 use Rattle.avtp_tool.proofs.Shown.{none_printed, one_printed}
+use Rattle.avtp_tool.specs.Show.{show_line}
 use Rattle.avtp_tool.proofs.show.print_records.Goals as goal
 
 pub loop-end-init : goal.loop-end-init

@@ -1,8 +1,8 @@
 use Rattle.std.proofs.Common.{ℕ, List, [], Ok}
 use Rattle.avtp_text.specs.Written.{written}
 use Rattle.capture_io.specs.Source.{HasGivenOf, remains_of, to_do}
-use Rattle.avtp_tool.specs.state.Outcome.{KeepsSink}
-use Rattle.avtp_tool.proofs.Leaving.{IsAmid}
+use Rattle.run_report.specs.Outcome.{KeepsSink}
+use Rattle.run_report.proofs.Leaving.{IsAmid}
 use Rattle.avtp_tool.proofs.Shown.{IsPrintedTo}
 use Rattle.avtp_tool.proofs.show.print_records.Given as goal
 

@@ -1,8 +1,8 @@
 use Rattle.std.proofs.Common.{refl}
+use Rattle.run_report.proofs.DoesFile.{does_unopened, does_read, does_cut}
+use Rattle.run_report.proofs.Leaving.{own_ended}
+use Rattle.run_report.proofs.Outcomes.{counts_ended, sink_then, counts_failed, sink_err}
 use Rattle.avtp_tool.specs.Show.{show_report}
-use Rattle.avtp_tool.proofs.DoesFile.{does_cut, does_read, does_unopened}
-use Rattle.avtp_tool.proofs.Leaving.{own_ended}
-use Rattle.avtp_tool.proofs.Outcomes.{counts_ended, counts_failed, sink_err, sink_then}
 use Rattle.avtp_tool.proofs.Shown.{show_told, some_lines}
 use Rattle.avtp_tool.proofs.show.show.Goals as goal
 

@@ -1,0 +1,254 @@
+-- The run of `agree`.
+use Rattle.std.proofs.Common.{◌≡◌, ℕ, List, Option, Some, None, inl, refl, sym, subst, [], ◌∷◌, inr, ◌∙◌, Result, ◌++◌, Ok, Err, ◌≢◌, true, false, zero, suc, arith, ℤ, length, take, ap}
+use Rattle.std.specs.Prelude.{IsSome, ◌==◌, if◌then◌else◌, Contains}
+use Rattle.avtp_base.specs.Files.{Files}
+use Rattle.avtp_words.specs.Grammar.{Agreeing}
+use Rattle.avtp_text.specs.Notices.{read_fault_line}
+use Rattle.avtp_base.specs.declared.failed.Failed.{Failed}
+use Rattle.avtp_base.specs.States.{Asks, ShelfState, SinkState}
+use Rattle.avtp_text.specs.Written.{AppendsPrefix, written}
+use Rattle.avtp_text.proofs.Printing.{prefix_before, prefix_after}
+use Rattle.listener_pair.specs.Differences.{differences, counts_of}
+use Rattle.capture_io.proofs.Ending.{ends_weaker}
+use Rattle.avtp_base.specs.Told.{Appends}
+use Rattle.avtp_base.proofs.Told.{Appends-trans}
+use Rattle.capture_io.specs.declared.end.End.{End}
+use Rattle.listener_pair.specs.declared.difference.PairCounts.{PairCounts}
+use Rattle.avtp_base.specs.declared.failed.OpenFault.{OpenFault}
+use Rattle.avtp_base.specs.Faults.{Rose}
+use Rattle.capture_io.specs.Source.{Sourcing, slot_of}
+use Rattle.capture_io.specs.Reads.{OnlyReads}
+use Rattle.avtp_base.proofs.Files.{KeepsFiles-trans}
+use Rattle.capture_io.specs.Ends.{end_of}
+use Rattle.capture_io.specs.Formats.{records_in}
+use Rattle.packet_journal.specs.Packets.{PacketJournal}
+use Rattle.listener.specs.Laws.{HearsTalker}
+use Rattle.listener_pair.specs.declared.difference.Difference.{Difference}
+use Rattle.pair_laws.proofs.Agreeing.{captures-none, captures-one}
+use Rattle.pair_laws.proofs.Found.{captures-paired}
+use Rattle.capture_io.specs.declared.end.End.TheVariants as end
+use Rattle.avtp_base.specs.declared.failed.OpenFault.TheVariants as open_fault
+use Rattle.run_report.specs.declared.status.Status.{Status}
+use Rattle.run_report.specs.Outcome.{TellsRun, EndsWith, TellsYield, CountsReading, EndsUnopened, KeepsSink}
+use Rattle.run_report.specs.Yield.{HandsNothing, says, Gives, Yield}
+use Rattle.run_report.proofs.Outcomes.{IsCut, tells_cut, tells_end, missing_none, tells_last, yield_telling, counts_unopened, unopened_own, unopened_undone, counts_by, sink_then, counts_memory, sink_ok, counts_failed, sink_err}
+use Rattle.run_report.proofs.Runs.{run_asked, run_cut}
+use Rattle.run_report.proofs.Yields.{part_text, part_whole, part_none}
+use Rattle.run_report.specs.Reading.{is_of_reading, DoesReading, IsReadingStatus}
+use Rattle.run_report.specs.Endings.{IsUnopened}
+use Rattle.run_report.specs.Listener.{plan_of}
+use Rattle.run_report.proofs.Files.{shown_before}
+use Rattle.run_report.proofs.Leaving.{own_as}
+use Rattle.run_report.specs.declared.status.Status.TheVariants as status
+use Rattle.agree_command.specs.Agree.{AgreeOutcome, agree_came, agree_ended, agree_report, compared_text, difference_lines, merged_in, AgreeYields, agree_status, last_lines, HasAgreement}
+use Rattle.agree_command.specs.Agree.AgreeOutcome.{without_a, without_b, compared, cut_a, cut_b}
+use Rattle.agree_command.specs.state.Comparing.{IsCutIn, HasCompared, Refuses, RefusesTwo, AreTold, ClosesTwo, Compares, ComparesTo, OpensTwo}
+use Rattle.agree_command.specs.state.Comparing.IsCutIn.{in_a, in_b}
+use Rattle.agree_command.specs.state.Agree.{EndsWithLines}
+use Rattle.agree_command.specs.state.Comparing.RefusesTwo.{first, second}
+use Rattle.agree_command.specs.declared.comparing.Compared.{Compared}
+use Rattle.agree_command.specs.declared.comparing.Comparing.{Comparing}
+use Rattle.agree_command.proofs.TwoFiles.{both_closed}
+use Rattle.agree_command.specs.declared.comparing.Compared.TheVariants as ended_as
+
+-- ---- the outcome of a run if no read fault occurs
+
+pub agree_here : (asked : Agreeing) (files : Files) (fault : Type 0) → AgreeOutcome asked files fault (agree_came asked (files asked.a)) (agree_ended asked (files asked.a) (files asked.b)) (agree_report asked (files asked.a) (files asked.b))
+agree_here asked files fault = at (files asked.a) (files asked.b) refl refl where
+  at : (a b : Option (List ℕ)) → files asked.a ≡ a → files asked.b ≡ b → AgreeOutcome asked files fault (agree_came asked a) (agree_ended asked a b) (agree_report asked a b)
+  at None b is_a is_b = without_a (inl is_a) refl refl refl
+  at (Some x) None is_a is_b = without_b (subst IsSome (sym is_a) refl) (inl is_b) refl refl refl
+  at (Some x) (Some y) is_a is_b = compared x y is_a is_b refl refl refl
+
+came_all : (asked : Agreeing) (a : Option (List ℕ)) → IsSome a → agree_came asked a ≡ asked.a ∷ asked.b ∷ []
+came_all asked None some = absurd cc
+came_all asked (Some x) some = refl
+
+missing_b : (asked : Agreeing) (a : Option (List ℕ)) → (agree_ended asked a None ≡ status.ReadFault) × (agree_report asked a None ≡ read_fault_line)
+missing_b asked None = (refl, refl)
+missing_b asked (Some x) = (refl, refl)
+
+-- the outcome of a run without read faults, given the bytes of A and of B, or `None` for a missing file
+abbrev pub ComesTo : Agreeing → List (List ℕ) → Status → List ℕ → Option (List ℕ) → Option (List ℕ) → Type 0
+ComesTo asked came ended text a b = (came ≡ agree_came asked a) × (ended ≡ agree_ended asked a b) × (text ≡ agree_report asked a b)
+
+pub agree_complete : {asked : Agreeing} {files : Files} {fault : Type 0} {came : List (List ℕ)} {ended : Status} {text : List ℕ} → (fault → ⊥) → AgreeOutcome asked files fault came ended text → ComesTo asked came ended text (files asked.a) (files asked.b)
+agree_complete {asked} {files} {fault} {came} {ended} {text} none (without_a (inl is) c e t) = subst (λ (a : Option (List ℕ)). ComesTo asked came ended text a (files asked.b)) (sym is) (c, e, t)
+agree_complete none (without_a (inr f) c e t) = absurd (none f)
+agree_complete {asked} {files} {fault} {came} {ended} {text} none (without_b some (inl is) c e t) =
+    let missing = missing_b asked (files asked.a) in
+    subst (ComesTo asked came ended text (files asked.a)) (sym is) (c ∙ sym (came_all asked (files asked.a) some), e ∙ sym missing.0, t ∙ sym missing.1)
+agree_complete none (without_b some (inr f) c e t) = absurd (none f)
+agree_complete {asked} {files} {fault} {came} {ended} {text} none (compared x y is_a is_b c e t) =
+    subst (λ (a : Option (List ℕ)). ComesTo asked came ended text a (files asked.b)) (sym is_a) (subst (ComesTo asked came ended text (Some x)) (sym is_b) (c, e, t))
+agree_complete none (cut_a x y prefix is_a is_b c ends e t) = absurd (none ends.0)
+agree_complete none (cut_b x y prefix is_a is_b c ends e t) = absurd (none ends.0)
+
+-- ---- both files were opened
+
+pub agree_cut : {asked : Agreeing} {all : Files} {fault : Type 0} {s t : ShelfState} {before now : Option (List ℕ)} {result : Result Status Failed} (x y : List ℕ) → all asked.a ≡ Some x → all asked.b ≡ Some y → IsCut result
+    → AppendsPrefix before now (difference_lines (differences (merged_in asked x y))) → Asks (asked.a ∷ asked.b ∷ []) s t → TellsRun (AgreeYields asked all fault) HandsNothing s t before now result
+agree_cut {asked} {all} {fault} {s} {t} {before} {now} {result} x y is_a is_b cut prefix asks =
+    run_asked (AgreeYields asked all fault) (asked.a ∷ asked.b ∷ [])
+    (tells_cut _ (says (compared_text asked x y)) (compared x y is_a is_b refl refl refl, refl) cut (part_text refl (says (compared_text asked x y)) (prefix_before before now _ _ prefix))) asks
+
+pub agree_fault : {asked : Agreeing} {all : Files} {fault fault' : Type 0} {s t : ShelfState} {before : Option (List ℕ)} {h h' : SinkState} {w w' : List ℕ} {result : Result Status Failed} (x y : List ℕ) → all asked.a ≡ Some x → all asked.b ≡ Some y → (fault → fault')
+    → IsCutIn asked x y fault before (written h.held w) → EndsWith status.ReadFault h h' w w' result read_fault_line → Asks (asked.a ∷ asked.b ∷ []) s t
+    → TellsRun (AgreeYields asked all fault') HandsNothing s t before (written h'.held w') result
+agree_fault {asked} {all} {fault} {fault'} x y is_a is_b cause (in_a prefix ends lines) last asks =
+    run_asked (AgreeYields asked all fault') (asked.a ∷ asked.b ∷ [])
+    (tells_end _ [] (cut_a x y prefix is_a is_b refl (ends_weaker asked.listener.limit (Some x) fault fault' end.ReadFault prefix cause ends) refl refl, refl) lines refl last) asks
+agree_fault {asked} {all} {fault} {fault'} x y is_a is_b cause (in_b prefix ends lines) last asks =
+    run_asked (AgreeYields asked all fault') (asked.a ∷ asked.b ∷ [])
+    (tells_end _ [] (cut_b x y prefix is_a is_b refl (ends_weaker asked.listener.limit (Some y) fault fault' end.ReadFault prefix cause ends) refl refl, refl) lines refl last) asks
+
+lines_end : {Outcome : Status → Yield → Type 0} {before : Option (List ℕ)} {h h' : SinkState} {w w' : List ℕ} {result : Result Status Failed} {ended : Status} {lines : List ℕ} (text : List ℕ)
+    → Outcome ended (says (text ++ lines)) → Appends before (written h.held w) text → EndsWithLines ended h h' w w' result lines → TellsYield Outcome HandsNothing before (written h'.held w') result
+lines_end {before = before} {h} {h'} {w} {w'} {result = Ok s} {ended} {lines} text outcome start last =
+    let given : Gives HandsNothing before (written h'.held w') (says (text ++ lines)) = record { text = Appends-trans before (written h.held w) (written h'.held w') text lines start last.written; items = refl } in
+    record { ended = ended; yields = says (text ++ lines); outcome = outcome; whole = λ memory write. (last.status, given); part = part_whole (says (text ++ lines)) given }
+lines_end {before = before} {h} {h'} {w} {w'} {result = Err e} {ended} {lines} text outcome start last =
+    record { ended = ended; yields = says (text ++ lines); outcome = outcome; whole = tt; part = part_text refl (says (text ++ lines)) (prefix_after before (written h.held w) (written h'.held w') text lines start last.written) }
+
+pub agree_told : {asked : Agreeing} {all : Files} {fault : Type 0} {s t : ShelfState} {before : Option (List ℕ)} {h h' : SinkState} {w w' : List ℕ} {result : Result Status Failed} {a b : End} {counts : PairCounts} (x y : List ℕ) → all asked.a ≡ Some x → all asked.b ≡ Some y
+    → HasCompared asked x y a b counts before (written h.held w) → EndsWithLines (agree_status counts.differ a b) h h' w w' result (last_lines asked.listener.limit counts a b) → Asks (asked.a ∷ asked.b ∷ []) s t
+    → TellsRun (AgreeYields asked all fault) HandsNothing s t before (written h'.held w') result
+agree_told {asked} {all} {fault} {h = h} {h'} {w} {w'} {result} {a} {b} {counts} x y is_a is_b has last asks =
+    let ended : EndsWithLines (agree_status (counts_of (merged_in asked x y)).differ _ _) h h' w w' result (last_lines asked.listener.limit (counts_of (merged_in asked x y)) _ _) = rw (has.counted, has.end_a, has.end_b) at last in
+    run_asked (AgreeYields asked all fault) (asked.a ∷ asked.b ∷ [])
+    (lines_end (difference_lines (differences (merged_in asked x y))) (compared x y is_a is_b refl refl refl, refl) has.lines ended) asks
+
+-- ---- statuses
+
+reads_status : (found : ℕ) (a b : End) → a ≢ end.ReadFault → b ≢ end.ReadFault → (is_of_reading (agree_status found a b) ≡ true) × (agree_status found a b ≢ status.ReadFault)
+reads_status found end.Whole end.Whole p q =
+    elim (found == 0) as (λ b. (is_of_reading (if b then status.Done else status.Findings) ≡ true) × ((if b then status.Done else status.Findings) ≢ status.ReadFault)) [ true ↦ (refl, λ e. cc) | false ↦ (refl, λ e. cc) ]
+reads_status found end.Whole (end.Refused r) p q = (refl, λ e. cc)
+reads_status found end.Whole end.ReadFault p q = absurd (q refl)
+reads_status found end.Whole end.Limit p q = (refl, λ e. cc)
+reads_status found (end.Refused r) b p q = (refl, λ e. cc)
+reads_status found end.ReadFault b p q = absurd (p refl)
+reads_status found end.Limit b p q = (refl, λ e. cc)
+
+-- ---- a file that could not be opened
+
+among : {names more : List (List ℕ)} {files : Option Files} {before after : ℕ} {result : Result Status Failed} → ((name : List ℕ) → Contains names name → Contains more name) → CountsReading names files before after result → CountsReading more files before after result
+among within counts = record {
+  never_falls = counts.never_falls;
+  fault = λ is. elim (counts.fault is) [ inl rose ↦ inl rose | inr one ↦ inr (record { name = one.name; one = within one.name one.one; missing = one.missing }) ];
+  quiet = counts.quiet;
+}
+
+among_first : (a b name : List ℕ) → Contains (a ∷ []) name → Contains (a ∷ b ∷ []) name
+among_first a b name (zero, less, is) = (0, omega arith, is)
+among_first a b name (suc n, less, is) = absurd (omega arith)
+
+among_second : (a b name : List ℕ) → Contains (b ∷ []) name → Contains (a ∷ b ∷ []) name
+among_second a b name (zero, less, is) = (1, omega arith, is)
+among_second a b name (suc n, less, is) = absurd (omega arith)
+
+unopened_run : {asked : Agreeing} {all : Files} {s t : ShelfState} {h h' : SinkState} {w w' : List ℕ} {result : Result Status Failed} (fault : OpenFault) (name : List ℕ) (came : List (List ℕ)) → s.files ≡ Some all → Refuses s t name fault → EndsUnopened fault h h' w w' result
+    → (IsUnopened all (Rose s.reading_faults t.reading_faults) name → AgreeOutcome asked all (Rose s.reading_faults t.reading_faults) came status.ReadFault read_fault_line) → Asks came s t
+    → TellsRun (AgreeYields asked all (Rose s.reading_faults t.reading_faults)) HandsNothing s t (written h.held w) (written h'.held w') result
+unopened_run {asked} {all} {s} {t} {h} {h'} {w} {w'} {result} open_fault.Memory name came told refuses ends outcome asks =
+    let left = ends.memory refl in
+    let yields = says (agree_report asked (all asked.a) (all asked.b)) in
+    run_cut (AgreeYields asked all (Rose s.reading_faults t.reading_faults)) (agree_came asked (all asked.a)) (agree_ended asked (all asked.a) (all asked.b)) yields (agree_here asked all _, refl) (subst IsCut (sym left.0) (inl refl)) (part_none refl yields left.1)
+unopened_run {asked} {all} {s} {t} {h} {h'} {w} {w'} open_fault.Missing name came told refuses ends outcome asks =
+    run_asked (AgreeYields asked all (Rose s.reading_faults t.reading_faults)) came
+    (tells_last (yield_telling (written h.held w) (written h'.held w') read_fault_line refl) (outcome (inl (missing_none s.files name all told (refuses.missing refl))), refl) (ends.other (λ e. cc))) asks
+unopened_run {asked} {all} {s} {t} {h} {h'} {w} {w'} open_fault.Failed name came told refuses ends outcome asks =
+    run_asked (AgreeYields asked all (Rose s.reading_faults t.reading_faults)) came
+    (tells_last (yield_telling (written h.held w) (written h'.held w') read_fault_line refl) (outcome (inr (refuses.counted.failed refl)), refl) (ends.other (λ e. cc))) asks
+
+pub agree_unopened : {s t : ShelfState} {h h' : SinkState} {w w' : List ℕ} {result : Result Status Failed} (asked : Agreeing) (fault : OpenFault) → RefusesTwo s t asked.a asked.b fault → EndsUnopened fault h h' w w' result
+    → DoesReading (AgreeYields asked) (asked.a ∷ asked.b ∷ []) HandsNothing s t h h' w w' result
+agree_unopened {s} {t} {result = result} asked fault (first only refuses) ends = record {
+  tells = λ all told still. unopened_run fault asked.a (asked.a ∷ []) told refuses ends (λ cause. without_a cause refl refl refl) only.asked;
+  count = 1;
+  within = omega arith;
+  all = λ done. absurd (unopened_undone fault result ends done);
+  keeps = only;
+  counts = among (among_first asked.a asked.b) (counts_unopened {T = Sourcing} fault s.reading_faults t.reading_faults s.files asked.a refuses.counted refuses.missing ends);
+  own = unopened_own fault ends;
+  sink = ends.sink;
+}
+agree_unopened {s} {t} {result = result} asked fault (second there only refuses) ends = record {
+  tells = λ all told still. unopened_run fault asked.b (asked.a ∷ asked.b ∷ []) told refuses ends (λ cause. without_b (there all told) cause refl refl refl) only.asked;
+  count = 2;
+  within = omega arith;
+  all = λ done. refl;
+  keeps = only;
+  counts = among (among_second asked.a asked.b) (counts_unopened {T = Sourcing} fault s.reading_faults t.reading_faults s.files asked.b refuses.counted refuses.missing ends);
+  own = unopened_own fault ends;
+  sink = ends.sink;
+}
+
+-- ---- the command, over two files that were opened
+
+module _ {s t u v : ShelfState} {c c' : Comparing} {h mid : SinkState} {w m : List ℕ} {compared : Result Compared Failed} (asked : Agreeing) (opened : OpensTwo s t asked.listener.limit (plan_of asked.listener) asked.a asked.b (Ok c))
+    (compares : Compares t u c c' h mid w m compared) (closes : ClosesTwo u v (slot_of c'.a.source) (slot_of c'.b.source)) where
+  both_read : OnlyReads s v (asked.a ∷ asked.b ∷ [])
+  both_read = both_closed opened.opened compares.reads (subst (λ (k : ℕ). ClosesTwo u v k (slot_of c.b.source)) compares.slot_a (subst (ClosesTwo u v (slot_of c'.a.source)) compares.slot_b closes))
+
+  rose_over : Rose t.reading_faults u.reading_faults → Rose s.reading_faults v.reading_faults
+  rose_over rose = subst (λ (n : ℕ). Rose n v.reading_faults) opened.opened.reading (subst (Rose t.reading_faults) (sym closes.reading) rose)
+
+  told_over : (all : Files) → s.files ≡ Some all → IsSome v.files → (at : AreTold asked.listener.limit all asked.a asked.b t c) × ComparesTo asked at.bytes_a at.bytes_b (Rose t.reading_faults u.reading_faults) (written h.held w) (written mid.held m) compared
+  told_over all told still =
+      let at = opened.told all told (shown_before t.files v.files (KeepsFiles-trans t.files u.files v.files compares.reads.files closes.files) still) in
+      (at, compares.told asked at.bytes_a at.bytes_b opened.plans at.given_a at.given_b)
+
+  does_over : {h' : SinkState} {w' : List ℕ} {result : Result Status Failed}
+      → ((all : Files) → s.files ≡ Some all → IsSome v.files → TellsRun (AgreeYields asked all (Rose s.reading_faults v.reading_faults)) HandsNothing s v (written h.held w) (written h'.held w') result)
+      → CountsReading (asked.a ∷ asked.b ∷ []) s.files s.reading_faults v.reading_faults result → IsReadingStatus result → KeepsSink h h' result → DoesReading (AgreeYields asked) (asked.a ∷ asked.b ∷ []) HandsNothing s v h h' w w' result
+  does_over tells counts own sink = record { tells = tells; count = 2; within = omega arith; all = λ done. refl; keeps = both_read; counts = counts; own = own; sink = sink }
+
+pub agree_ends : {s t u v : ShelfState} {c c' : Comparing} {h mid h' : SinkState} {w m w' : List ℕ} {result : Result Status Failed} {a b : End} {counts : PairCounts} (asked : Agreeing) → OpensTwo s t asked.listener.limit (plan_of asked.listener) asked.a asked.b (Ok c)
+    → Compares t u c c' h mid w m (Ok (ended_as.Ended a b counts)) → ClosesTwo u v (slot_of c'.a.source) (slot_of c'.b.source)
+    → EndsWithLines (agree_status counts.differ a b) mid h' m w' result (last_lines asked.listener.limit counts a b) → DoesReading (AgreeYields asked) (asked.a ∷ asked.b ∷ []) HandsNothing s v h h' w w' result
+agree_ends {s} {t} {u} {v} {result = result} {a} {b} {counts} asked opened compares closes last =
+    let counted = compares.counted in
+    let ends = reads_status counts.differ a b counted.0 counted.1 in
+    let same : v.reading_faults ≡ s.reading_faults = closes.reading ∙ counted.2 ∙ opened.opened.reading in
+    does_over asked opened compares closes
+    (λ all told still. let so = told_over asked opened compares closes all told still in agree_told so.0.bytes_a so.0.bytes_b so.0.is_a so.0.is_b so.1 last (both_read asked opened compares closes).asked)
+    (counts_by (agree_status counts.differ a b) result (both_read asked opened compares closes).reading (inl (ends.1, same)) last.status) (own_as result (agree_status counts.differ a b) ends.0 last.status) (sink_then compares.sink last.sink)
+
+pub agree_stops : {s t u v : ShelfState} {c c' : Comparing} {h mid h' : SinkState} {w m w' : List ℕ} {result : Result Status Failed} (asked : Agreeing) → OpensTwo s t asked.listener.limit (plan_of asked.listener) asked.a asked.b (Ok c)
+    → Compares t u c c' h mid w m (Ok ended_as.Fault) → ClosesTwo u v (slot_of c'.a.source) (slot_of c'.b.source)
+    → EndsWith status.ReadFault mid h' m w' result read_fault_line → DoesReading (AgreeYields asked) (asked.a ∷ asked.b ∷ []) HandsNothing s v h h' w w' result
+agree_stops {s} {t} {u} {v} {result = result} asked opened compares closes last =
+    let rose = rose_over asked opened compares closes in
+    does_over asked opened compares closes
+    (λ all told still. let so = told_over asked opened compares closes all told still in agree_fault so.0.bytes_a so.0.bytes_b so.0.is_a so.0.is_b rose so.1 last (both_read asked opened compares closes).asked)
+    (counts_by status.ReadFault result (both_read asked opened compares closes).reading (inr (refl, rose compares.counted)) last.status) (own_as result status.ReadFault refl last.status) (sink_then compares.sink last.sink)
+
+pub agree_no_memory : {s t u v : ShelfState} {c c' : Comparing} {h mid : SinkState} {w m : List ℕ} (asked : Agreeing) → OpensTwo s t asked.listener.limit (plan_of asked.listener) asked.a asked.b (Ok c)
+    → Compares t u c c' h mid w m (Ok ended_as.NoMemory) → ClosesTwo u v (slot_of c'.a.source) (slot_of c'.b.source) → DoesReading (AgreeYields asked) (asked.a ∷ asked.b ∷ []) HandsNothing s v h mid w m (Ok status.Memory)
+agree_no_memory asked opened compares closes =
+    does_over asked opened compares closes
+    (λ all told still. let so = told_over asked opened compares closes all told still in agree_cut so.0.bytes_a so.0.bytes_b so.0.is_a so.0.is_b (inl refl) so.1 (both_read asked opened compares closes).asked)
+    (counts_memory (Ok status.Memory) (both_read asked opened compares closes).reading refl) refl (sink_ok status.Memory compares.sink)
+
+pub agree_failed : {s t u v : ShelfState} {c c' : Comparing} {h mid : SinkState} {w m : List ℕ} {e : Failed} (e' : Failed) (asked : Agreeing) → OpensTwo s t asked.listener.limit (plan_of asked.listener) asked.a asked.b (Ok c)
+    → Compares t u c c' h mid w m (Err e) → ClosesTwo u v (slot_of c'.a.source) (slot_of c'.b.source) → DoesReading (AgreeYields asked) (asked.a ∷ asked.b ∷ []) HandsNothing s v h mid w m (Err e')
+agree_failed e' asked opened compares closes =
+    does_over asked opened compares closes
+    (λ all told still. let so = told_over asked opened compares closes all told still in agree_cut so.0.bytes_a so.0.bytes_b so.0.is_a so.0.is_b tt so.1 (both_read asked opened compares closes).asked)
+    (counts_failed e' (both_read asked opened compares closes).reading) tt (sink_err compares.sink)
+
+-- ---- two captures of one talker
+
+pub has_agreement : (asked : Agreeing) (x y : List ℕ) (shift : ℤ) (p : PacketJournal) → HearsTalker shift p (plan_of asked.listener) (records_in (take asked.listener.limit x)) → HearsTalker shift p (plan_of asked.listener) (records_in (take asked.listener.limit y))
+    → HasAgreement asked p x y (compared_text asked x y)
+has_agreement asked x y shift p a b =
+    let plan = plan_of asked.listener in
+    let limit = asked.listener.limit in
+    let none = captures-none shift p plan plan (records_in (take limit x)) (records_in (take limit y)) a b refl in
+    record {
+      printed = ap (λ (l : List Difference). difference_lines l ++ last_lines limit (counts_of (merged_in asked x y)) (end_of limit x) (end_of limit y)) none;
+      none = ap length none;
+      one = captures-one shift p plan plan (records_in (take limit x)) (records_in (take limit y)) a b refl;
+      paired = captures-paired shift p plan plan (records_in (take limit x)) (records_in (take limit y)) a b refl;
+    }

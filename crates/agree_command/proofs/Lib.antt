@@ -1,0 +1,3 @@
+pub mod AgreeRun
+pub mod SideBySide
+pub mod TwoFiles

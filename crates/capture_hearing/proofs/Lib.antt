@@ -1,0 +1,2 @@
+pub mod ShownTo
+pub mod HearingTo

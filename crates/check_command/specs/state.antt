@@ -1,0 +1,2 @@
+-- Only private functions and proofs use these definitions.
+pub mod Check

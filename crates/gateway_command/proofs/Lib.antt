@@ -1,0 +1,10 @@
+pub mod GatewayRun
+pub mod HeardBeside
+pub mod PutBatches
+pub mod Putting
+pub mod ScanRuns
+pub mod Scanned
+pub mod Silent
+pub mod TurnRun
+pub mod TurnedInput
+pub mod TurningTo

@@ -1,0 +1,2 @@
+pub mod Gateway
+pub mod state

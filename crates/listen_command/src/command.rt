@@ -1,0 +1,183 @@
+//! The command `listen`: when each sample of a stream is due.
+
+ghost use Rattle.std.specs.Prelude.{◌≡◌, ◌≤◌, [], Ok, None};
+ghost use Rattle.avtp_words.specs.Grammar.{listening_of};
+ghost use Rattle.avtp_text.specs.Listen.{capture_line};
+ghost use Rattle.avtp_text.specs.Written.{PrintsPart};
+ghost use Rattle.run_report.specs.Yield.{HandsOn};
+ghost use Rattle.listener.specs.Listening.{StandsFor};
+ghost use Rattle.presenter_ring.specs.Pipes.{ended_with, given_to, waiting_in};
+ghost use Rattle.capture_hearing.specs.Hearing.{IsAtReading};
+ghost use Rattle.listen_command.specs.Listen.{last_line, listen_report};
+ghost use Rattle.listen_command.specs.state.Listen.{HearsCapture, HearsItems};
+ghost use Rattle.run_report.specs.Outcome.{EndsWith};
+ghost use Rattle.run_report.specs.Reading.{DoesFile};
+ghost use Rattle.listen_command.specs.Listen.{IsListening};
+ghost use Rattle.run_report.specs.Status.{status_of};
+
+use crate::presenting::Presenting;
+use crate::receiving::Receiving;
+use crate::rounds::present_all;
+use avtp_base::Failed;
+use avtp_files::{Shelf, Sink};
+use avtp_text::Text;
+use avtp_words::{Listen, ListenerOptions};
+use capture_hearing::{Heard, Hearing, Stage};
+use capture_io::{End, Source};
+use device_rack::Devices;
+use listener::{Counts, ListenPlan, RecordListener};
+use presenter_ring::{Gate, Pipe};
+use run_report::{Status, plan, print_unopened, write_waiting};
+use std::alloc::Global;
+use std::thread::Threads;
+
+/// Prints each sample of a stream in a capture with its presentation time, or why its packet is not presented. Each
+/// line is printed as soon as it is due. One thread reads the capture and decides what is shown. Another thread writes
+/// the text of each item, and then gives the item to the devices. Memory is allocated for each packet. If memory runs
+/// out, all lines that were due by then have been printed.
+pub fn listen<T: Threads + Sync, F: Shelf + Send, S: Sink + Send, G: Gate, D: Devices + Send>(
+    rt: &T,
+    alloc: Global,
+    asked: &Listen<'_>,
+    file: &str,
+    shelf: &mut F,
+    text: &mut Text,
+    out: &mut S,
+    gate: &G,
+    rack: &mut D,
+) -> Result<Status, Failed>
+    requires { IsListening (listening_of asked.now) }
+    ensures { DoesFile (listen_report (listening_of asked.now) file.now) (HandsOn D.handed rack.old rack.new) asked.now.listener.limit file.now (F.state shelf.old) (F.state shelf.new) (S.state out.old) (S.state out.new) text.old text.new result }
+{
+    let source = match Source::open(alloc, asked.listener.limit, shelf, file) {
+        Ok(source) => source,
+        Err(fault) => return print_unopened(text, out, fault),
+    };
+    let Ok(listener) = RecordListener::begin(alloc, plan(&asked.listener)) else {
+        source.close(shelf);
+        return Ok(Status::Memory);
+    };
+    let mut hearing = Hearing {
+        source,
+        listener,
+        alloc,
+        stage: Stage::Reading,
+    };
+    let ring = asked.ring;
+    let heard = hear_records(
+        rt,
+        alloc,
+        ring,
+        file,
+        &mut hearing,
+        shelf,
+        text,
+        out,
+        gate,
+        rack,
+    );
+    let Hearing { source, .. } = hearing;
+    source.close(shelf);
+    match heard? {
+        Heard::Ended { end, counts } => print_last(text, out, asked.listener.limit, &counts, end),
+        Heard::NoMemory => Ok(Status::Memory),
+    }
+}
+
+/// Prints a capture's name and then the items that are shown of its records, each as soon as it is due. The capture is
+/// read as far as possible. At most `ring` items are queued between the two threads.
+fn hear_records<T: Threads + Sync, F: Shelf + Send, S: Sink + Send, G: Gate, D: Devices + Send>(
+    rt: &T,
+    alloc: Global,
+    ring: u32,
+    file: &str,
+    hearing: &mut Hearing,
+    shelf: &mut F,
+    text: &mut Text,
+    out: &mut S,
+    gate: &G,
+    rack: &mut D,
+) -> Result<Heard, Failed>
+    requires ring { (1 ≤ ring) × (ring ≤ 256) }
+    requires reading { IsAtReading (F.state shelf.old).slots hearing.old.source hearing.old.stage }
+    requires stands { StandsFor [] 0 hearing.old.listener }
+    ensures { HearsCapture (HandsOn D.handed rack.old rack.new) file.now hearing.old.listener (F.state shelf.old) (F.state shelf.new) hearing.old.source hearing.new.source (S.state out.old) (S.state out.new) text.old text.new result }
+{
+    let Ok(mut pipe) = Pipe::begin(alloc, ring) else {
+        return Ok(Heard::NoMemory);
+    };
+    print_name(text, out, file)?;
+    hear_items(rt, &mut pipe, hearing, shelf, text, out, gate, rack)?;
+    Ok(hearing.heard())
+}
+
+/// Prints a capture's name at once, so that it is visible before the first packet arrives.
+fn print_name<S: Sink>(text: &mut Text, out: &mut S, file: &str) -> Result<(), Failed>
+    ensures { PrintsPart (S.state out.old) (S.state out.new) text.old text.new result (capture_line file.now) }
+{
+    text.capture(out, file)?;
+    write_waiting(text, out)
+}
+
+/// Prints the items that are shown of a capture's records, as far as the capture can be read.
+fn hear_items<T: Threads + Sync, F: Shelf + Send, S: Sink + Send, G: Gate, D: Devices + Send>(
+    rt: &T,
+    pipe: &mut Pipe,
+    hearing: &mut Hearing,
+    shelf: &mut F,
+    text: &mut Text,
+    out: &mut S,
+    gate: &G,
+    rack: &mut D,
+) -> Result<(), Failed>
+    requires pipe { (waiting_in pipe.old ≡ []) × (ended_with pipe.old ≡ None) × (given_to pipe.old ≡ 0) }
+    requires reading { IsAtReading (F.state shelf.old).slots hearing.old.source hearing.old.stage }
+    ensures { HearsItems (HandsOn D.handed rack.old rack.new) (F.state shelf.old) (F.state shelf.new) hearing.old.source hearing.new.source hearing.old.listener hearing.new.listener hearing.new.stage (S.state out.old) (S.state out.new) text.old text.new result }
+{
+    let mut receiver = Receiving { hearing, shelf };
+    let mut presenter = Presenting {
+        text,
+        out,
+        rack,
+        result: Ok(()),
+    };
+    hear_through(rt, pipe, &mut receiver, &mut presenter, gate)
+}
+
+/// Runs the receiving thread and the presenting thread until everything is done.
+fn hear_through<T: Threads + Sync, F: Shelf + Send, S: Sink + Send, G: Gate, D: Devices + Send>(
+    rt: &T,
+    pipe: &mut Pipe,
+    receiver: &mut Receiving<'_, F>,
+    presenter: &mut Presenting<'_, S, D>,
+    gate: &G,
+) -> Result<(), Failed>
+    requires pipe { (waiting_in pipe.old ≡ []) × (ended_with pipe.old ≡ None) × (given_to pipe.old ≡ 0) }
+    requires begun { IsAtReading (F.state receiver.old.shelf.now).slots receiver.old.hearing.now.source receiver.old.hearing.now.stage × (presenter.old.result ≡ Ok tt) }
+    ensures same { (receiver.new.shelf.ghost_name ≡ receiver.old.shelf.ghost_name) × (receiver.new.hearing.ghost_name ≡ receiver.old.hearing.ghost_name)
+        × (presenter.new.text.ghost_name ≡ presenter.old.text.ghost_name) × (presenter.new.out.ghost_name ≡ presenter.old.out.ghost_name) × (presenter.new.rack.ghost_name ≡ presenter.old.rack.ghost_name) }
+    ensures hears { HearsItems (HandsOn D.handed presenter.old.rack.now presenter.new.rack.now) (F.state receiver.old.shelf.now) (F.state receiver.new.shelf.now)
+        receiver.old.hearing.now.source receiver.new.hearing.now.source receiver.old.hearing.now.listener receiver.new.hearing.now.listener receiver.new.hearing.now.stage
+        (S.state presenter.old.out.now) (S.state presenter.new.out.now) presenter.old.text.now presenter.new.text.now result }
+{
+    present_all(rt, pipe, receiver, presenter, gate)
+}
+
+/// Prints the counts of a capture, or why the capture was not read to its end.
+fn print_last<S: Sink>(
+    text: &mut Text,
+    out: &mut S,
+    limit: u64,
+    counts: &Counts,
+    end: End,
+) -> Result<Status, Failed>
+    ensures { EndsWith (status_of end) (S.state out.old) (S.state out.new) text.old text.new result (last_line limit counts.now end) }
+{
+    match end {
+        End::Whole => text.end_listen(out, counts)?,
+        End::Refused(refusal) => text.capture_refused(out, refusal)?,
+        End::ReadFault => text.read_fault(out)?,
+        End::Limit => text.limit(out, limit)?,
+    }
+    Ok(Status::of(end))
+}

@@ -1,0 +1,11 @@
+pub mod OneFile
+pub mod InOrder
+pub mod DoesFile
+pub mod Leaving
+pub mod Lines
+pub mod Making
+pub mod Outcomes
+pub mod Runs
+pub mod Sending
+pub mod Files
+pub mod Yields

@@ -1,0 +1,10 @@
+pub mod Status
+pub mod Frame
+pub mod Yield
+pub mod Outcome
+pub mod Reading
+pub mod Made
+pub mod Lines
+pub mod Endings
+pub mod Listener
+pub mod Runs

@@ -1,0 +1,197 @@
+-- Files that a command reads in order: the possible outcomes of one file, and of all files.
+use Rattle.std.specs.Prelude.{List, ◌≡◌, ℕ, Some, ◌⊎◌, Option, None, take, [], ◌∷◌, true, false, if◌then◌else◌, ◌^◌, ◌≤◌, IsSome, Result, Ok, Err, IfOk, OnErr, Bool, length}
+use Rattle.pcap_frames.specs.Capture.{Record}
+use Rattle.capture_io.specs.declared.end.End.{End}
+use Rattle.capture_io.specs.Formats.{records_in}
+use Rattle.capture_io.specs.Ends.{EndsAt, end_of, CountsFault}
+use Rattle.avtp_text.specs.Notices.{read_fault_line}
+use Rattle.avtp_base.specs.Files.{Files, Slots}
+use Rattle.capture_io.specs.Source.{Sourcing, slot_of, to_do, GivesNext, HasGivenOf}
+use Rattle.avtp_base.specs.States.{ShelfState, SinkState}
+use Rattle.capture_io.specs.Reads.{ReadsSlot, OnlyReads}
+use Rattle.avtp_base.specs.declared.failed.Failed.{Failed}
+use Rattle.avtp_text.specs.Written.{written}
+use Rattle.avtp_base.specs.Told.{Keeps}
+use Rattle.avtp_base.specs.Faults.{Rose}
+use Rattle.sample_schedule.specs.declared.shown.Shown.{Shown}
+use Rattle.run_report.specs.declared.status.Status.{Status}
+use Rattle.run_report.specs.Yield.{Yield, says, with_more}
+use Rattle.run_report.specs.Outcome.{is_done, KeepsSink, CountsReading, TellsYield, IsDone, TellsRun}
+use Rattle.run_report.specs.declared.status.Status.TheVariants as status
+
+-- ---- one file
+
+-- What a command makes of a file: the status, and what the command yields. The status and the yield depend on the
+-- records that were read and on how the reading ended.
+pub record Report : Type 0 where
+  pub status : List Record → End → Status
+  pub yields : List Record → End → Yield
+
+-- A possible outcome of reading an open file that has these bytes. At most `limit` of the bytes are read.
+pub record ReadOutcome (report : Report) (limit : ℕ) (bytes : List ℕ) (fault : Type 0) (ended : Status) (yields : Yield) : Type 0 where
+  pub how : End
+  pub prefix : List ℕ
+  pub ends : EndsAt limit (Some bytes) fault how prefix
+  pub status : ended ≡ report.status (records_in prefix) how
+  pub given : yields ≡ report.yields (records_in prefix) how
+
+-- The possible outcomes of reading a file: the status, and what the command yields. The file is given by its bytes, or
+-- by `None` if it is missing. Reading a missing file ends with a read fault. A read fault of a file that exists is
+-- possible only if `fault` holds.
+abbrev pub FileOutcome : Report → ℕ → Option (List ℕ) → Type 0 → Status → Yield → Type 0
+FileOutcome report limit None fault ended yields = (ended ≡ status.ReadFault) × (yields ≡ says read_fault_line)
+FileOutcome report limit (Some bytes) fault ended yields =
+    ReadOutcome report limit bytes fault ended yields ⊎ (fault × (ended ≡ status.ReadFault) × (yields ≡ says read_fault_line))
+
+-- a file's status if no read fault occurs; the option holds the file's bytes, or is `None` if the file is missing
+abbrev pub file_status : Report → ℕ → Option (List ℕ) → Status
+file_status report limit None = status.ReadFault
+file_status report limit (Some bytes) = report.status (records_in (take limit bytes)) (end_of limit bytes)
+
+-- What a file yields if no read fault occurs. The option holds the file's bytes, or is `None` if the file is missing.
+abbrev pub file_yield : Report → ℕ → Option (List ℕ) → Yield
+file_yield report limit None = says read_fault_line
+file_yield report limit (Some bytes) = report.yields (records_in (take limit bytes)) (end_of limit bytes)
+
+-- ---- files in order
+
+-- The status of a run whose first file is done. If the other files end with `Done`, the run has the status of the first
+-- file. If the other files do not end with `Done`, the run has the status of the other files.
+abbrev pub joined : Status → Status → Status
+joined first status.Done = first
+joined first rest = rest
+
+-- Files are read in order. The first file that does not end with `Done` or `Findings` ends the run. `One name` gives
+-- the possible outcomes of the file `name`. The list `read` has the names of the files that the run reached.
+unfoldable pub InOrder : (List ℕ → Status → Yield → Type 0) → List (List ℕ) → List (List ℕ) → Status → Yield → Type 0
+InOrder One [] read ended yields = (read ≡ []) × (ended ≡ status.Done) × (yields ≡ says [])
+InOrder One (name ∷ names) read ended yields =
+    ((is_done ended ≡ false) × (read ≡ name ∷ []) × One name ended yields)
+    ⊎ ((others : List (List ℕ)) × (first : Status) × (rest : Status) × (here : Yield) × (more : Yield)
+    × (is_done first ≡ true) × One name first here × InOrder One names others rest more
+    × (read ≡ name ∷ others) × (ended ≡ joined first rest) × (yields ≡ with_more here more))
+
+-- the files that a run reaches, given the status of each: all files up to and including the first file that does not
+-- end with `Done` or `Findings`
+unfoldable pub in_order_read : (List ℕ → Status) → List (List ℕ) → List (List ℕ)
+in_order_read one [] = []
+in_order_read one (name ∷ names) = name ∷ (if is_done (one name) then in_order_read one names else [])
+
+-- the status of a run over files in order, given the status of each
+unfoldable pub in_order_status : (List ℕ → Status) → List (List ℕ) → Status
+in_order_status one [] = status.Done
+in_order_status one (name ∷ names) = if is_done (one name) then joined (one name) (in_order_status one names) else one name
+
+-- what a run over files in order yields, given the status and the yield of each
+unfoldable pub in_order_yield : (List ℕ → Status) → (List ℕ → Yield) → List (List ℕ) → Yield
+in_order_yield one yields [] = says []
+in_order_yield one yields (name ∷ names) = with_more (yields name) (if is_done (one name) then in_order_yield one yields names else says [])
+
+-- ---- a command
+
+-- Which files a command reads, in order; the maximum number of bytes that it reads of each file; and what it makes of
+-- each file.
+pub record ReadPlan : Type 0 where
+  pub names : List (List ℕ)
+  pub limit : ℕ
+  pub report : List ℕ → Report
+
+-- the possible outcomes of the file with this name, given the files of a shelf
+abbrev pub one_outcome : ReadPlan → Files → Type 0 → List ℕ → Status → Yield → Type 0
+one_outcome plan files fault name ended yields = FileOutcome (plan.report name) plan.limit (files name) fault ended yields
+
+-- the possible outcomes of a command with this plan: the files that it reaches, its status, and what it yields
+abbrev pub PlanOutcome : ReadPlan → Files → Type 0 → List (List ℕ) → Status → Yield → Type 0
+PlanOutcome plan files fault read ended yields = InOrder (one_outcome plan files fault) plan.names read ended yields
+
+-- the status with which the file of this name ends, if no read fault occurs
+abbrev pub one_status : ReadPlan → Files → List ℕ → Status
+one_status plan files name = file_status (plan.report name) plan.limit (files name)
+
+-- what the file of this name yields, if no read fault occurs
+abbrev pub one_yield : ReadPlan → Files → List ℕ → Yield
+one_yield plan files name = file_yield (plan.report name) plan.limit (files name)
+
+-- the files that a command with this plan reaches, if no read fault occurs
+abbrev pub plan_read : ReadPlan → Files → List (List ℕ)
+plan_read plan files = in_order_read (one_status plan files) plan.names
+
+-- if no read fault occurs, a command with this plan ends with this status
+abbrev pub plan_status : ReadPlan → Files → Status
+plan_status plan files = in_order_status (one_status plan files) plan.names
+
+-- what a command with this plan yields, if no read fault occurs
+abbrev pub plan_yield : ReadPlan → Files → Yield
+plan_yield plan files = in_order_yield (one_status plan files) (one_yield plan files) plan.names
+
+-- ---- an open capture
+
+-- The file is open, its reading has not ended, and the remaining work of the reading is bounded.
+abbrev pub IsOpen : Slots → Sourcing → Type 0
+IsOpen slots source = (source.ended ≡ None) × IsSome (slots (slot_of source)) × (to_do source ≤ 2 ^ 41)
+
+-- how the reading of the file ended, if all its records were reported
+abbrev pub ended_in : {T E : Type 0} → (T → End) → Result T E → Option End
+ended_in end (Ok x) = Some (end x)
+ended_in end (Err e) = None
+
+-- The file was read, and is still open. The count of reading faults rose if a read fault ended the reading. All else is
+-- unchanged.
+pub record ReadsCapture (shelf shelf' : ShelfState) (k now : ℕ) (how : Option End) : Type 0 where
+  pub reads : ReadsSlot shelf shelf' k now
+  pub counted : CountsFault None how shelf.reading_faults shelf'.reading_faults
+
+-- If the result is `Ok`, the next record was read or the reading ended; before this, pending text was written if
+-- necessary. With `Err`, writing the pending text failed, and nothing was read.
+pub record ReadsAhead (shelf shelf' : ShelfState) (old new : Sourcing) (out out' : SinkState) (waits waits' : List ℕ) (result : Result (Option End) Failed) : Type 0 where
+  pub gives : IfOk result (λ how. GivesNext shelf shelf' old new how)
+  pub cut : OnErr result ((shelf' ≡ shelf) × (slot_of new ≡ slot_of old))
+  pub kept : Keeps (written out.held waits) (written out'.held waits')
+  pub sink : KeepsSink out out' result
+
+-- The records of the file were read as far as possible, and reported. `Told` says what was reported. `Told` relates the
+-- limit, the bytes of the file, the condition for a read fault, the known text before and after, and the result.
+pub record ReadsRecords {T : Type 0} (Told : ℕ → List ℕ → Type 0 → Option (List ℕ) → Option (List ℕ) → Result T Failed → Type 0) (ending : T → End)
+    (shelf shelf' : ShelfState) (old new : Sourcing) (out out' : SinkState) (waits waits' : List ℕ) (result : Result T Failed) : Type 0 where
+  pub told : (limit : ℕ) (bytes : List ℕ) → HasGivenOf limit bytes shelf old [] → Told limit bytes (Rose shelf.reading_faults shelf'.reading_faults) (written out.held waits) (written out'.held waits') result
+  pub reads : ReadsCapture shelf shelf' (slot_of old) (slot_of new) (ended_in ending result)
+  pub sink : KeepsSink out out' result
+
+-- ---- what was done
+
+-- A run that only reads can end with this status. The status does not report a failed write, wrong words, a failed
+-- device or a refused input of `talk`.
+abbrev pub is_of_reading : Status → Bool
+is_of_reading status.Words = false
+is_of_reading status.WriteFault = false
+is_of_reading status.DeviceFault = false
+is_of_reading status.TalkInput = false
+is_of_reading ended = true
+
+abbrev pub IsReadingStatus : Result Status Failed → Type 0
+IsReadingStatus result = IfOk result (λ s. is_of_reading s ≡ true)
+
+-- The file `name` was read, up to `limit` bytes. What the report yields was printed and given to devices, and nothing
+-- else was done.
+pub record DoesFile (report : Report) (handed : List Shown → Type 0) (limit : ℕ) (name : List ℕ) (shelf shelf' : ShelfState) (out out' : SinkState) (waits waits' : List ℕ) (result : Result Status Failed) : Type 0 where
+  pub tells : (all : Files) → shelf.files ≡ Some all → TellsYield (FileOutcome report limit (all name) (Rose shelf.reading_faults shelf'.reading_faults)) handed (written out.held waits) (written out'.held waits') result
+  pub keeps : OnlyReads shelf shelf' (name ∷ [])
+  pub counts : CountsReading (name ∷ []) shelf.files shelf.reading_faults shelf'.reading_faults result
+  pub own : IsReadingStatus result
+  pub sink : KeepsSink out out' result
+
+-- A command read some of these files, in this order. What the command yields was printed and given to devices, and
+-- nothing else was done. `Outcome` gives the possible outcomes over the files that a shelf shows.
+pub record DoesReading (Outcome : Files → Type 0 → List (List ℕ) → Status → Yield → Type 0) (names : List (List ℕ)) (handed : List Shown → Type 0) (shelf shelf' : ShelfState) (out out' : SinkState) (waits waits' : List ℕ) (result : Result Status Failed) : Type 0 where
+  pub tells : (all : Files) → shelf.files ≡ Some all → IsSome shelf'.files → TellsRun (Outcome all (Rose shelf.reading_faults shelf'.reading_faults)) handed shelf shelf' (written out.held waits) (written out'.held waits') result
+  pub count : ℕ
+  pub within : count ≤ length names
+  pub all : IsDone result → count ≡ length names
+  pub keeps : OnlyReads shelf shelf' (take count names)
+  pub counts : CountsReading names shelf.files shelf.reading_faults shelf'.reading_faults result
+  pub own : IsReadingStatus result
+  pub sink : KeepsSink out out' result
+
+-- The files of a plan were read in order.
+abbrev pub DoesFiles : ReadPlan → (List Shown → Type 0) → ShelfState → ShelfState → SinkState → SinkState → List ℕ → List ℕ → Result Status Failed → Type 0
+DoesFiles plan handed shelf shelf' out out' waits waits' result = DoesReading (PlanOutcome plan) plan.names handed shelf shelf' out out' waits waits' result

@@ -1,0 +1,3 @@
+pub mod TalkOutcomes
+pub mod Talked
+pub mod TalkRun
