@@ -1,9 +1,7 @@
 //! A listener hears deliveries one by one. The items that the listener shows are returned one by one.
 
-ghost use Rattle.std.specs.Prelude.{◌≡◌, ◌≤◌, ◌<◌, ◌^◌, [], All, IfOk, IsTrue, List, None, false, length, ℕ};
+ghost use Rattle.std.specs.Prelude.{◌≡◌, ◌≤◌, ◌<◌, ◌^◌, [], All, IfOk, IsTrue, None, false, length, ℕ};
 ghost use Rattle.listener.specs.Listening.{StandsFor, is_closed};
-ghost use Rattle.talker.specs.Journal.{stream_of};
-ghost use Rattle.soak_run.specs.Captured.{captured};
 ghost use Rattle.soak_run.specs.state.Hearing.{AreDeliverable, CanDeliver, Delivers, IsDeliverable, closed_at, records_of, shown_by};
 
 use avtp_base::NoMemory;

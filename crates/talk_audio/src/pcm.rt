@@ -5,8 +5,8 @@ ghost use Rattle.aaf_format.specs.Aaf.{aaf_shape, frame_size as frame_size_of};
 ghost use Rattle.talk_audio.specs.Packets.{aaf_bytes, aaf_packet, kind_of, stamp_of};
 ghost use Rattle.talk_audio.specs.state.Packets.{CanPatch, IsPcmOf, IsPcmPacket, IsPlanWith, front_of, patched};
 ghost use Rattle.talk_plan.specs.Places.{IsSentAt};
-ghost use Rattle.talk_plan.specs.Plan.{IsAudioPlan, rate_code as rate_code_of};
-ghost use Rattle.talk_audio.specs.Streams.{HasHeaders, IsPcm, IsPcmStream};
+ghost use Rattle.talk_plan.specs.Plan.{rate_code as rate_code_of};
+ghost use Rattle.talk_audio.specs.Streams.{HasHeaders, IsPcmStream};
 
 use crate::audio::SAMPLES_LIMIT;
 use aaf_format::{AafFormat, AafView, width_of, write_aaf};

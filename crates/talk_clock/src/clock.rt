@@ -4,7 +4,7 @@ ghost use Rattle.std.specs.Prelude.{◌≡◌, ◌+◌, ◌*◌, ◌/◌, ◌≤
 ghost use Rattle.byteorder.specs.Endian.{big_bytes};
 ghost use Rattle.crf_format.specs.Crf.{crf_shape, crf_spelling};
 ghost use Rattle.talk_clock.specs.Clock.{clock_arrival, clock_mr, clock_packet, clock_packets, clock_point, first_point, frame_at, points_for, points_in};
-ghost use Rattle.talk_clock.specs.Clock.{points_size, AreFew, clock_frame_size, clock_bytes};
+ghost use Rattle.talk_clock.specs.Clock.{AreFew, clock_frame_size, clock_bytes};
 ghost use Rattle.talk_plan.specs.Plan.{IsAudioPlan};
 ghost use Rattle.talk_clock.specs.Streams.{IsClockOf, IsClockStream, IsPacketOfClock, IsPointOfClock};
 ghost use Rattle.talk_clock.specs.state.Points.{HasTimestamps, IsFirstPoint, IsInstantOf, IsPlaceOf, IsSizeOf, TakesPoints, TakesTimestamps};

@@ -1,17 +1,14 @@
 //! The packets of an H.264 stream (IEEE 1722-2016, 8).
 
-ghost use Rattle.std.specs.Prelude.{◌≡◌, ◌+◌, ◌-◌, ◌*◌, ◌^◌, ◌<◌, ◌≤◌, nat_le, drop, length, pos, take, Option, Some, None, IfOk, IfErr};
+ghost use Rattle.std.specs.Prelude.{◌≡◌, ◌+◌, ◌-◌, ◌*◌, ◌^◌, ◌<◌, ◌≤◌, nat_le, length, pos, Option, Some, None, IfOk, IfErr};
 ghost use Rattle.cvf_format.specs.AnnexB.{nal_units};
 ghost use Rattle.cvf_format.specs.Cvf.{cvf_shape, cvf_spelling, header_size};
 ghost use Rattle.packet_journal.specs.Packets.{H264Data};
 ghost use Rattle.talk_plan.specs.declared.fault.TalkFault.TheVariants.{Memory};
-ghost use Rattle.talk_plan.specs.declared.plan.TalkKind.TheVariants.{H264};
 ghost use Rattle.talk_video.specs.Fragments.{access_unit_of, body_by, ends_access_unit as ends_access_unit_of, packets_for, part_by, rest_in};
 ghost use Rattle.talk_plan.specs.Ethernet.{packet_bytes};
-ghost use Rattle.talk_plan.specs.Plan.{IsVideoPlan, most_input};
 ghost use Rattle.talk_video.specs.state.Listing.{HasAccessUnit, IsCarried, IsFragmentAt, IsFullPart, IsUnitAt};
 ghost use Rattle.talk_video.specs.Streams.{IsPacketOfVideo, IsVideoOf, SendsVideo, video_packet};
-ghost use Rattle.talk_video.specs.Units.{units_fault};
 ghost use Rattle.talk_video.specs.Video.{access_instant, stamp_by, video_arrival};
 
 use crate::units::{NalUnit, list_units};
