@@ -83,7 +83,10 @@ pcapng len=28 0100000020000000010000000000000009000100090000000300010020000000 =
 /// The result is the same in pieces of one byte and of 65,536 bytes.
 #[test]
 fn a_capture_is_read_up_to_what_refuses_it(rt: HostRuntime) -> Result<(), Fail> {
-    for line in CAPTURES.lines().filter(|line| !line.starts_with("//")) {
+    for line in CAPTURES.lines() {
+        if line.starts_with("//") {
+            continue;
+        }
         let (row, wanted) = row_of(line)?;
         let capture = bytes_of(rt.alloc(), row)?;
         for most in [1usize, 65_536] {
@@ -118,7 +121,7 @@ fn answers_when_cut(alloc: Global, capture: &[u8]) -> Result<String, Fail> {
 
 #[test]
 fn a_short_capture_is_refused_by_the_field_that_is_cut_off(rt: HostRuntime) -> Result<(), Fail> {
-    for line in CUT.lines().filter(|line| !line.starts_with("//")) {
+    for line in CUT.lines() {
         let (row, wanted) = row_of(line)?;
         let found = answers_when_cut(rt.alloc(), &bytes_of(rt.alloc(), row)?)?;
         assert!(rt; found.trim() == wanted, "{row}: {found}");
@@ -129,25 +132,29 @@ fn a_short_capture_is_refused_by_the_field_that_is_cut_off(rt: HostRuntime) -> R
 /// A capture of two records, the first of 66 bytes, the second of one byte.
 const TWO: &str = "pcap 02000000 f4010000 01000000 01000000 05";
 
+/// The limit, the call that fails, and what is read of the two records.
+const ENDS: &str = "\
+123 0 => 1000000000 66 66, 2000000500 1 1, Some(Whole)
+122 0 => 1000000000 66 66, Some(Limit)
+106 0 => 1000000000 66 66, Some(Limit)
+105 0 => Some(Limit)
+123 2 => Some(ReadFault)
+123 3 => 1000000000 66 66, Some(ReadFault)
+123 4 => 1000000000 66 66, 2000000500 1 1, Some(ReadFault)";
+
 #[test]
 fn reading_ends_at_a_limit_or_at_a_call_that_fails(rt: HostRuntime) -> Result<(), Fail> {
     let capture = bytes_of(rt.alloc(), TWO)?;
-    for (limit, fails, wanted) in [
-        (123, 0u64, "1000000000 66 66, 2000000500 1 1, Some(Whole)"),
-        (122, 0, "1000000000 66 66, Some(Limit)"),
-        (106, 0, "1000000000 66 66, Some(Limit)"),
-        (105, 0, "Some(Limit)"),
-        (123, 2, "Some(ReadFault)"),
-        (123, 3, "1000000000 66 66, Some(ReadFault)"),
-        (123, 4, "1000000000 66 66, 2000000500 1 1, Some(ReadFault)"),
-    ] {
+    for line in ENDS.lines() {
+        let (row, wanted) = row_of(line)?;
+        let (limit, fails) = row.split_once(' ').ok_or("a row without a call")?;
         let way = Way {
             most: 106,
-            limit,
-            fails,
+            limit: limit.parse()?,
+            fails: fails.parse()?,
         };
         let found = told(rt.alloc(), &capture, way)?;
-        assert_eq!(rt; found.as_str(), wanted, "{way:?}");
+        assert!(rt; found.as_str() == wanted, "{row}: {found}");
     }
     Ok(())
 }
@@ -160,11 +167,14 @@ fn one_interface_too_many_is_refused(rt: HostRuntime) -> Result<(), Fail> {
     for _ in 0..256 {
         capture.extend_from_slice(&interface)?;
     }
-    let found = told(rt.alloc(), &capture, FREE)?;
-    assert_eq!(rt; found.as_str(), "Some(Whole)");
+    let mut found = told(rt.alloc(), &capture, FREE)?;
     capture.extend_from_slice(&interface)?;
-    let found = told(rt.alloc(), &capture, FREE)?;
-    assert_eq!(rt; found.as_str(), "interfaces at 5148");
+    found.push_str(", ")?;
+    found.push_str(told(rt.alloc(), &capture, FREE)?.as_str())?;
+    assert!(rt;
+        found.as_str() == "Some(Whole), interfaces at 5148",
+        "{found}"
+    );
     Ok(())
 }
 

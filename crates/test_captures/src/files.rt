@@ -3,13 +3,14 @@
 ghost use Rattle.std.specs.Prelude.{◌≤◌, length};
 
 use crate::reading::{Way, shelf_over};
-use avtp_base::{Buffer, Failed, OpenFault, Spelled};
+use avtp_base::{Buffer, Spelled};
 use avtp_files::{FileShelf, FileSink, Shelf, Sink, StdSink};
 use avtp_memory::{MemorySink, QuietShelf, QuietSink};
-use capture_io::{FileWriter, Stop, read_contents};
+use capture_io::{FileWriter, read_contents};
 use std::alloc::Global;
 use std::test::Fail;
-use std::{env, fs, io};
+use std::{fs, io};
+use vectors_avtp::row_of;
 
 /// A value that is encoded as its own bytes.
 #[derive(Drop)]
@@ -50,42 +51,81 @@ fn write_twice<F: Shelf>(
     Ok(writer.finish(shelf).is_ok())
 }
 
-/// The shelf takes at most 30,000 bytes per call.
+/// What is read of a file, up to a limit, and how the reading stops; or why the file cannot be opened.
+fn read<F: Shelf>(alloc: Global, shelf: &mut F, limit: u64, name: &str) -> Result<String, Fail> {
+    let text = match read_contents(alloc, limit, shelf, name) {
+        Ok(contents) => {
+            let text = str::from_utf8(contents.bytes.as_slice()).unwrap_or("no text");
+            format!(in alloc; "{text} {:?}", contents.stop)?
+        }
+        Err(fault) => format!(in alloc; "{fault:?}")?,
+    };
+    Ok(text)
+}
+
+/// What each write of a word returns.
+fn written<S: Sink>(alloc: Global, sink: &mut S, words: &str) -> Result<String, Fail> {
+    let mut text = String::new(alloc);
+    for word in words.split_whitespace() {
+        if !word.is_empty() {
+            let result = sink.write(word.as_bytes());
+            text.push_str(format!(in alloc; "{result:?} ")?.as_str())?;
+        }
+    }
+    Ok(text)
+}
+
+/// The call that fails, whether both writes of 40,000 bytes succeed, and how many bytes the file has. The shelf takes at
+/// most 30,000 bytes per call.
+const WRITES: &str = "\
+0 => true Some(80000)
+2 => false Some(0)
+3 => false Some(30000)
+5 => false Some(70000)";
+
 #[test]
 fn a_file_has_what_was_written_before_a_call_fails(rt: HostRuntime) -> Result<(), Fail> {
     let piece = vec![in rt.alloc(); 7u8; 40_000]?;
-    for (fails, size) in [(0u64, 80_000usize), (2, 0), (3, 30_000), (5, 70_000)] {
+    for line in WRITES.lines() {
+        let (fails, wanted) = row_of(line)?;
         let way = Way {
             most: 30_000,
             limit: 0,
-            fails,
+            fails: fails.parse()?,
         };
         let mut shelf = shelf_over(rt.alloc(), &[], way)?;
         let whole = write_twice(rt.alloc(), &mut shelf, "b", &piece)?;
-        assert_eq!(rt; whole, fails == 0);
-        assert_eq!(rt; shelf.file("b").map(|bytes| bytes.len()), Some(size));
+        let size = match shelf.file("b") {
+            Some(bytes) => Some(bytes.len()),
+            None => None,
+        };
+        let found = format!(in rt.alloc(); "{whole} {size:?}")?;
+        assert!(rt; found.as_str() == wanted, "{line}: {found}");
     }
     Ok(())
 }
 
+/// The limit, the call that fails, what is then read of the file `a`, and why the file `b` cannot be opened.
+const READS: &str = "\
+5 0 => abcde End, Missing
+4 0 => abcd Limit, Missing
+5 3 => abc Fault, Missing";
+
 #[test]
 fn a_file_is_read_whole_or_to_a_limit_or_to_a_fault(rt: HostRuntime) -> Result<(), Fail> {
-    for (limit, fails, read, stop) in [
-        (5, 0u64, "abcde", Stop::End),
-        (4, 0, "abcd", Stop::Limit),
-        (5, 3, "abc", Stop::Fault),
-    ] {
+    for line in READS.lines() {
+        let (row, wanted) = row_of(line)?;
+        let (limit, fails) = row.split_once(' ').ok_or("a row without a call")?;
         let way = Way {
             most: 3,
-            limit,
-            fails,
+            limit: 0,
+            fails: fails.parse()?,
         };
         let mut shelf = shelf_over(rt.alloc(), b"abcde", way)?;
-        let contents = read_contents(rt.alloc(), u64::from(limit), &mut shelf, "a")?;
-        assert_eq!(rt; contents.bytes.as_slice(), read.as_bytes());
-        assert_eq!(rt; contents.stop, stop);
-        let missing = read_contents(rt.alloc(), 5, &mut shelf, "b").err();
-        assert_eq!(rt; missing, Some(OpenFault::Missing));
+        let mut found = read(rt.alloc(), &mut shelf, limit.parse()?, "a")?;
+        found.push_str(", ")?;
+        found.push_str(read(rt.alloc(), &mut shelf, 5, "b")?.as_str())?;
+        assert!(rt; found.as_str() == wanted, "{row}: {found}");
     }
     Ok(())
 }
@@ -93,97 +133,90 @@ fn a_file_is_read_whole_or_to_a_limit_or_to_a_fault(rt: HostRuntime) -> Result<(
 #[test]
 fn a_sink_in_memory_keeps_what_its_calls_took(rt: HostRuntime) -> Result<(), Fail> {
     let mut sink = MemorySink::over(rt.alloc(), vec![in rt.alloc(); 2u64]?).at_most(3);
-    assert_eq!(rt; sink.write(b"abcd"), Ok(3));
-    assert_eq!(rt; sink.write(b"d"), Err(Failed));
-    assert_eq!(rt; sink.write(b"ef"), Ok(2));
-    assert_eq!(rt; sink.bytes(), b"abcef".as_slice());
+    let mut found = written(rt.alloc(), &mut sink, "abcd d ef")?;
+    found.push_str(str::from_utf8(sink.bytes()).unwrap_or("no text"))?;
+    assert!(rt;
+        found.as_str() == "Ok(3) Err(Failed) Ok(2) abcef",
+        "{found}"
+    );
     Ok(())
 }
 
 /// After a write that did not fit, the shelf returns `Memory`, not `Missing`, for the name of a missing file.
 #[test]
 fn a_quiet_end_takes_all_and_keeps_what_fits(rt: HostRuntime) -> Result<(), Fail> {
-    let mut sink = QuietSink::over(rt.alloc(), 5)?;
-    assert_eq!(rt; sink.write(b"abc"), Ok(3));
-    assert_eq!(rt; sink.write(b"defg"), Ok(4));
-    assert_eq!(rt; sink.bytes(), b"abcde".as_slice());
-    let mut shelf = QuietShelf::over(rt.alloc(), Vec::new(rt.alloc()), 3);
-    assert_eq!(rt; shelf.open_file("b"), Err(OpenFault::Missing));
-    assert!(rt; write_twice(rt.alloc(), &mut shelf, "a", b"xy")?);
-    assert_eq!(rt; shelf.file("a"), Some(b"xyx".as_slice()));
-    assert_eq!(rt; shelf.open_file("b"), Err(OpenFault::Memory));
+    let alloc = rt.alloc();
+    let mut sink = QuietSink::over(alloc, 5)?;
+    let mut found = written(alloc, &mut sink, "abc defg")?;
+    found.push_str(str::from_utf8(sink.bytes()).unwrap_or("no text"))?;
+    let mut shelf = QuietShelf::over(alloc, Vec::new(alloc), 3);
+    let before = read(alloc, &mut shelf, 9, "b")?;
+    let whole = write_twice(alloc, &mut shelf, "a", b"xy")?;
+    let kept = str::from_utf8(shelf.file("a").unwrap_or(&[])).unwrap_or("no text");
+    found.push_str(format!(in alloc; ", {before}, {whole} {kept}, ")?.as_str())?;
+    found.push_str(read(alloc, &mut shelf, 9, "b")?.as_str())?;
+    let wanted = "Ok(3) Ok(4) abcde, Missing, true xyx, Memory";
+    assert!(rt; found.as_str() == wanted, "{found}");
     Ok(())
 }
 
-/// The path of the file `name` in the temporary directory.
-fn temporary(rt: &HostRuntime, name: &str) -> Result<String, Fail> {
-    let path = env::temp_dir(rt)?.join(rt.alloc(), name)?;
-    let path = path.to_str().ok_or("a path that is no text")?;
-    Ok(String::from_str(rt.alloc(), path)?)
-}
-
+/// Writes a file twice and reads it, removes it, and reads it again.
 #[test]
 fn a_real_file_is_made_and_read_back(rt: HostRuntime) -> Result<(), Fail> {
-    let path = temporary(&rt, "test_captures_shelf")?;
-    let path = path.as_str();
+    let path = "/tmp/test_captures_shelf";
     let mut shelf = FileShelf::new(rt.alloc(), &rt);
-    assert!(rt; write_twice(rt.alloc(), &mut shelf, path, b"abc")?);
-    let contents = read_contents(rt.alloc(), 9, &mut shelf, path)?;
-    assert_eq!(rt; contents.bytes.as_slice(), b"abcabc".as_slice());
-    assert_eq!(rt; contents.stop, Stop::End);
+    let whole = write_twice(rt.alloc(), &mut shelf, path, b"abc")?;
+    let kept = read(rt.alloc(), &mut shelf, 9, path)?;
     fs::remove_file(&rt, path)?;
-    assert_eq!(rt; shelf.open_file(path), Err(OpenFault::Failed));
+    let gone = read(rt.alloc(), &mut shelf, 9, path)?;
+    let found = format!(in rt.alloc(); "{whole}, {kept}, {gone}")?;
+    assert!(rt; found.as_str() == "true, abcabc End, Failed", "{found}");
     Ok(())
 }
 
-/// A sink over the file at `path`; the sink never writes to a file at one of the paths in `apart`.
-fn named(rt: HostRuntime, path: &str, apart: &[&str]) -> Result<FileSink<HostRuntime>, Fail> {
+/// What a sink over the file at `path` returns for each word that is written to it. The sink never writes to a file at
+/// one of the paths in `apart`.
+fn written_to(rt: HostRuntime, path: &str, apart: &str, words: &str) -> Result<String, Fail> {
     let mut others = Vec::new(rt.alloc());
-    for other in apart {
+    for other in apart.split_whitespace() {
         others.push(String::from_str(rt.alloc(), other)?)?;
     }
-    Ok(FileSink::named(rt, String::from_str(rt.alloc(), path)?, others))
+    let mut sink = FileSink::named(rt, String::from_str(rt.alloc(), path)?, others);
+    written(rt.alloc(), &mut sink, words)
 }
 
 /// A file that was read is not overwritten by a shelf or by a sink, under any of its paths.
 #[test]
 fn a_file_that_is_read_is_not_written_over(rt: HostRuntime) -> Result<(), Fail> {
-    let path = temporary(&rt, "test_captures_kept")?;
-    let other = temporary(&rt, "./test_captures_kept")?;
+    let (path, other) = ("/tmp/test_captures_kept", "/tmp/./test_captures_kept");
     let mut shelf = FileShelf::new(rt.alloc(), &rt);
-    assert!(rt; write_twice(rt.alloc(), &mut shelf, &path, b"abc")?);
-    assert_eq!(rt;
-        read_contents(rt.alloc(), 9, &mut shelf, &path)?.stop,
-        Stop::End
-    );
-    assert_eq!(rt; shelf.create_file(&other), Err(OpenFault::Failed));
-    let mut sink = named(rt, &other, &["/", &path])?;
-    assert_eq!(rt; sink.write(b"d"), Err(Failed));
-    let contents = read_contents(rt.alloc(), 9, &mut shelf, &path)?;
-    assert_eq!(rt; contents.bytes.as_slice(), b"abcabc".as_slice());
-    fs::remove_file(&rt, path.as_str())?;
+    let whole = write_twice(rt.alloc(), &mut shelf, path, b"abc")?;
+    let before = read(rt.alloc(), &mut shelf, 9, path)?;
+    let made = shelf.create_file(other).err();
+    let put = written_to(rt, other, "/ /tmp/test_captures_kept", "d")?;
+    let after = read(rt.alloc(), &mut shelf, 9, path)?;
+    fs::remove_file(&rt, path)?;
+    let found = format!(in rt.alloc(); "{whole}, {before}, {made:?}, {put}, {after}")?;
+    let wanted = "true, abcabc End, Some(Failed), Err(Failed) , abcabc End";
+    assert!(rt; found.as_str() == wanted, "{found}");
     Ok(())
 }
 
 /// The first write to a sink makes the sink's file. If the file exists already, the first write empties the file.
 #[test]
 fn a_sink_makes_its_file_when_it_is_written_to(rt: HostRuntime) -> Result<(), Fail> {
-    let path = temporary(&rt, "test_captures_sink")?;
-    let path = path.as_str();
-    for pieces in [["abc", "de"], ["f", "ghi"]] {
-        let mut sink = named(rt, path, &[])?;
-        for piece in pieces {
-            assert_eq!(rt; sink.write(piece.as_bytes()), Ok(piece.len()));
-        }
-    }
+    let path = "/tmp/test_captures_sink";
+    let first = written_to(rt, path, "", "abc de")?;
+    let second = written_to(rt, path, "", "f ghi")?;
     let mut shelf = FileShelf::new(rt.alloc(), &rt);
-    let contents = read_contents(rt.alloc(), 9, &mut shelf, path)?;
-    assert_eq!(rt; contents.bytes.as_slice(), b"fghi".as_slice());
+    let kept = read(rt.alloc(), &mut shelf, 9, path)?;
     fs::remove_file(&rt, path)?;
-    drop(named(rt, path, &[])?);
-    assert_eq!(rt; shelf.open_file(path), Err(OpenFault::Failed));
-    let mut sink = named(rt, "/", &[])?;
-    assert_eq!(rt; sink.write(b"a"), Err(Failed));
-    assert_eq!(rt; StdSink::new(io::writer(&rt)).write(b"\n"), Ok(1));
+    let none = written_to(rt, path, "", "")?;
+    let gone = read(rt.alloc(), &mut shelf, 9, path)?;
+    let folder = written_to(rt, "/", "", "a")?;
+    let printed = StdSink::new(io::writer(&rt)).write(b"\n");
+    let found = format!(in rt.alloc(); "{first}{second}{kept}, {none}{gone}, {folder}{printed:?}")?;
+    let wanted = "Ok(3) Ok(2) Ok(1) Ok(3) fghi End, Failed, Err(Failed) Ok(1)";
+    assert!(rt; found.as_str() == wanted, "{found}");
     Ok(())
 }

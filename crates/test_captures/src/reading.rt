@@ -9,7 +9,7 @@ use vectors_avtp::refusal_text;
 
 /// How a capture is read: at most `most` bytes per call, and at most `limit` bytes in all. Calls are numbered from 1,
 /// and call number `fails` fails. If `fails` is 0, no call fails.
-#[derive(Clone, Copy, Debug)]
+#[derive(Clone, Copy)]
 pub struct Way {
     pub most: usize,
     pub limit: u32,
