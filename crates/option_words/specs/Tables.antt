@@ -11,6 +11,7 @@ use Rattle.option_words.specs.declared.option.Takes.TheVariants as takes
 abbrev pub row_of : OptionRow → Row
 row_of row = record { name = row.name.now; takes = row.takes }
 
+-- the rows of the code's table, with plain bytes instead of their borrowed names
 abbrev pub rows_of : List OptionRow → List Row
 rows_of rows = map row_of rows
 
@@ -32,5 +33,6 @@ begins_with_dashes [] = false
 begins_with_dashes (first ∷ []) = false
 begins_with_dashes (first ∷ second ∷ _) = nat_eq first 45 && nat_eq second 45
 
+-- the name of each option begins with `--`, and `is_sound` holds for the values of each option
 abbrev pub are_sound : List Row → Bool
 are_sound rows = list_all (λ row. begins_with_dashes row.name && is_sound row.takes) rows
