@@ -2,10 +2,10 @@
 use Rattle.std.specs.Prelude.{List, ◌++◌, option_to_list}
 use Rattle.std.specs.Option.{option_map}
 use Rattle.avtp_words.specs.declared.device.Silence.{Silence as AskedSilence}
-use Rattle.device_rack.specs.declared.silence.Silence.{Silence}
+use Rattle.device_rack.specs.declared.silent_bytes.Silence.{Silence}
 use Rattle.avtp_words.specs.Grammar.{NamedRaw, NamedFile, Listening}
 use Rattle.avtp_words.specs.declared.device.Silence.TheVariants as asked_as
-use Rattle.device_rack.specs.declared.silence.Silence.TheVariants as silence
+use Rattle.device_rack.specs.declared.silent_bytes.Silence.TheVariants as silence
 use Rattle.avtp_tool.specs.declared.device_words.DeviceWord.{DeviceWord}
 use Rattle.avtp_tool.specs.declared.device_words.DeviceWord.TheVariants.{Raw, AnnexB}
 

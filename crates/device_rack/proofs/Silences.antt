@@ -4,8 +4,8 @@ use Rattle.std.specs.List.{range_with_len}
 use Rattle.std.proofs.lemmas.List.{take_more_set}
 use Rattle.std.proofs.lemmas.List.FromFn.{map-range_with_len_more, take-map-range_with_len}
 use Rattle.std.proofs.Math.Nat.{mul-add-mod_self_left}
-use Rattle.device_rack.specs.declared.silence.Silence.{Silence}
-use Rattle.device_rack.specs.declared.silence.Silence.TheVariants.{Zero, Am824}
+use Rattle.device_rack.specs.declared.silent_bytes.Silence.{Silence}
+use Rattle.device_rack.specs.declared.silent_bytes.Silence.TheVariants.{Zero, Am824}
 use Rattle.device_rack.specs.Output.{silence_of, silent_byte}
 
 -- silence repeats with each quadlet

@@ -6,8 +6,8 @@ use Rattle.sample_schedule.specs.declared.shown.Shown.{Shown}
 use Rattle.sample_schedule.specs.declared.shown.Shown.TheVariants.{Present, Flag}
 use Rattle.time_unfold.specs.declared.line.Line.{Line}
 use Rattle.time_unfold.specs.Lines.{floor_of}
-use Rattle.device_rack.specs.declared.silence.Silence.{Silence}
-use Rattle.device_rack.specs.declared.silence.Silence.TheVariants.{Zero, Am824}
+use Rattle.device_rack.specs.declared.silent_bytes.Silence.{Silence}
+use Rattle.device_rack.specs.declared.silent_bytes.Silence.TheVariants.{Zero, Am824}
 
 -- the batch of an item, if the item is presented
 abbrev pub batch_of : Shown → Option Presented

@@ -13,7 +13,7 @@ mod place;
 mod previous;
 mod rack;
 mod raw;
-mod silence;
+mod silent_bytes;
 mod writing;
 
 pub use annex_b::AnnexBDevice;
@@ -25,4 +25,4 @@ pub use output_files::OutputFiles;
 pub use place::Place;
 pub use rack::Rack;
 pub use raw::RawDevice;
-pub use silence::Silence;
+pub use silent_bytes::Silence;

@@ -21,7 +21,7 @@ pub struct Previous {
 impl Previous {
     ghost use Rattle.std.specs.Prelude.{◌≡◌, ◌-ℤ◌, Option};
     ghost use Rattle.sample_schedule.specs.Batches.{Presented};
-    ghost use Rattle.device_rack.specs.declared.silence.Silence.{Silence};
+    ghost use Rattle.device_rack.specs.declared.silent_bytes.Silence.{Silence};
     ghost use Rattle.device_rack.specs.Output.{samples_in, silence_before, silence_of, silent_bytes};
     ghost use Rattle.device_rack.specs.Written.{IsPrevious, IsPreviousOf};
 

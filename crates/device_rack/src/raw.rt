@@ -2,7 +2,7 @@
 
 use crate::device::Device;
 use crate::previous::Previous;
-use crate::silence::Silence;
+use crate::silent_bytes::Silence;
 use crate::writing::write_samples;
 use avtp_base::Failed;
 use avtp_files::Sink;
@@ -14,9 +14,10 @@ use sample_schedule::Shown;
 /// batch to the beginning of the second, even if there are units or flags between the batches. The length of the
 /// silence is rounded to whole samples of the first batch's line, with half a sample rounded up, and is at most
 /// 16,777,216 bytes. If the batches overlap, there is no silence. The items of all files of one run are one list, so
-/// silence between two files follows the rule for silence between two batches. Nothing is buffered: all bytes of an item are in the
-/// sink when `take` returns `Ok`. As long as no `take` has failed, the sink holds what it held when the device was
-/// made, followed by the whole output. The first `take` that fails writes only a prefix of its item's output.
+/// silence between two files follows the rule for silence between two batches. Nothing is buffered: all bytes of an
+/// item are in the sink when `take` returns `Ok`. As long as no `take` has failed, the sink holds what it held when the
+/// device was made, followed by the whole output. The first `take` that fails writes only a prefix of its item's
+/// output.
 #[derive(Drop)]
 pub struct RawDevice<S> {
     sink: S,

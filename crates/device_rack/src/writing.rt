@@ -4,7 +4,7 @@ ghost use Rattle.std.specs.Prelude.{◌++◌, ◌∷◌};
 ghost use Rattle.device_rack.specs.Output.{silence_of};
 ghost use Rattle.device_rack.specs.state.Written.{HasWritten};
 
-use crate::silence::Silence;
+use crate::silent_bytes::Silence;
 use avtp_base::Failed;
 use avtp_files::Sink;
 

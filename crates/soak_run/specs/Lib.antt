@@ -1,4 +1,4 @@
-pub mod Noise
+pub mod Generator
 pub mod Soak
 pub mod Captured
 pub mod Outcomes

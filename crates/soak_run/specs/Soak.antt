@@ -5,7 +5,7 @@ use Rattle.std.specs.List.{flat_map, range_with_len}
 use Rattle.aaf_format.specs.declared.aaf.AafFormat.TheVariants.{Int16}
 use Rattle.talk_plan.specs.declared.plan.TalkKind.TheVariants.{Aaf}
 use Rattle.talk_plan.specs.declared.plan.TalkPlan.{TalkPlan}
-use Rattle.soak_run.specs.Noise.{draw_after}
+use Rattle.soak_run.specs.Generator.{draw_after}
 use Rattle.talk_plan.specs.Timing.{arrival_of}
 
 -- the stream: sparse PCM

@@ -1,7 +1,7 @@
 //! The deliveries of a stream over a bad network.
 
 ghost use Rattle.std.specs.Prelude.{◌≡◌, ◌+◌, ◌≤◌, ◌<◌, ◌^◌, ◌++◌, ℕ, pos, suc, IfOk, OnOk};
-ghost use Rattle.soak_run.specs.Noise.{state_after};
+ghost use Rattle.soak_run.specs.Generator.{state_after};
 ghost use Rattle.talk_plan.specs.Timing.{arrival_of};
 ghost use Rattle.soak_run.specs.Soak.{all_copies, copies_by, delay_by, deliveries_of, draws_before, soak_plan};
 ghost use Rattle.soak_run.specs.state.Delivered.{HasDelivered};

@@ -1,7 +1,7 @@
 //! Pseudo-random numbers.
 
 ghost use Rattle.std.specs.Prelude.{◌≡◌, ◌<◌, ◌^◌};
-ghost use Rattle.soak_run.specs.Noise.{drawn, first_state, next_state};
+ghost use Rattle.soak_run.specs.Generator.{drawn, first_state, next_state};
 
 use std::marker::Model;
 
@@ -21,7 +21,7 @@ pub struct Noise {
 
 impl Model for Noise {
     ghost use Rattle.std.specs.Prelude.{ℕ, ◌<◌};
-    ghost use Rattle.soak_run.specs.Noise.{states};
+    ghost use Rattle.soak_run.specs.Generator.{states};
 
     ghost Value = { ℕ };
 

@@ -1,6 +1,6 @@
 -- The packets with numbers less than `number` were delivered.
 use Rattle.std.proofs.Common.{◌≡◌}
-use Rattle.soak_run.specs.Noise.{state_after}
+use Rattle.soak_run.specs.Generator.{state_after}
 use Rattle.soak_run.specs.Soak.{all_copies, draws_before}
 use Rattle.soak_run.proofs.deliveries.copies_of_all.Given as goal
 

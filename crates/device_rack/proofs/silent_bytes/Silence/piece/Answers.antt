@@ -2,7 +2,7 @@ use Rattle.std.proofs.Common.{◌≡◌, ◌∙◌, length, take, ap, sym, arith
 use Rattle.std.proofs.lemmas.List.{take_all}
 use Rattle.device_rack.proofs.Silences.{silence_next}
 use Rattle.device_rack.specs.Output.{silence_of}
-use Rattle.device_rack.proofs.silence.Silence.piece.Goals as goal
+use Rattle.device_rack.proofs.silent_bytes.Silence.piece.Goals as goal
 
 pub loop-j-preserved : goal.loop-j-preserved
 loop-j-preserved c = rw c.byte.ensures (silence_next c.args.self c.loop-j.byte-items c.loop-j.j (search rules) c.loop-j.invariant)

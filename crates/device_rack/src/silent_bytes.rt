@@ -1,4 +1,4 @@
-//! What is written for missing samples.
+//! The bytes that are written for missing samples. `raw.rt` says when they are written, and how many.
 
 /// What is written for missing samples.
 #[derive(Clone, Copy, Debug, PartialEq, Eq)]
