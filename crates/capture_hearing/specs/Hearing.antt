@@ -95,6 +95,7 @@ abbrev pub reads_left : Stage → Sourcing → ℕ
 reads_left Reading source = to_do source + 1
 reads_left stage source = 0
 
+-- the remaining work of reading the file; 0 once its reading has ended
 abbrev pub unread : Stage → Sourcing → ℕ
 unread Reading source = to_do source
 unread stage source = 0

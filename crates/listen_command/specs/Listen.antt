@@ -116,6 +116,7 @@ pub record ListenOutcome (asked : Listening) (files : Files) (fault : Type 0) (f
 
 -- ---- values within their bounds
 
+-- the values that the words give to `listen` are within their bounds
 pub record IsListening (asked : Listening) : Type 0 where
   pub limit : asked.listener.limit ≤ 2 ^ 40
   pub plan : IsSchedulePlan (schedule_plan (plan_of asked.listener))

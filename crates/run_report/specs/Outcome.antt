@@ -47,6 +47,7 @@ abbrev pub is_through : Status → Bool
 is_through status.DeviceFault = true
 is_through ended = is_done ended
 
+-- a run did everything that was asked for: it ended with the status `Done` or `Findings`
 abbrev pub IsDone : Result Status Failed → Type 0
 IsDone (Ok ended) = is_done ended ≡ true
 IsDone (Err e) = ⊥
@@ -86,7 +87,7 @@ pub record KeepsSink {T : Type 0} (out out' : SinkState) (result : Result T Fail
   pub counted : IsCounted out.faults out'.faults result
 
 -- The pending text was written, or a part of it if the sink failed. The bytes that the sink holds, followed by the text
--- that is still pending, are the same as before.
+-- that is still pending, are unchanged.
 pub record WritesWaiting (out out' : SinkState) (waits waits' : List ℕ) (result : Result Unit Failed) : Type 0 where
   pub kept : Keeps (written out.held waits) (written out'.held waits')
   pub sink : KeepsSink out out' result

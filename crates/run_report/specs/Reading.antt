@@ -168,6 +168,7 @@ is_of_reading status.DeviceFault = false
 is_of_reading status.TalkInput = false
 is_of_reading ended = true
 
+-- unless the sink failed, a run ended with a status with which a run that only reads can end
 abbrev pub IsReadingStatus : Result Status Failed → Type 0
 IsReadingStatus result = IfOk result (λ s. is_of_reading s ≡ true)
 
