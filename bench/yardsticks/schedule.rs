@@ -1,4 +1,4 @@
-//! Which of a list of items are presented, and why the others are not, with the design of `sample_schedule` but without
+//! Which of a list of items are presented, and why the others are not, with the design of `schedule_judge` but without
 //! contracts. The yardsticks of `bench/run` for a judge and for a listener each use a part.
 #![allow(dead_code)]
 
