@@ -31,6 +31,10 @@ use Rattle.avtp_base.specs.declared.failed.OpenFault.TheVariants as open_fault
 use Rattle.run_report.specs.declared.status.Status.{Status}
 use Rattle.run_report.specs.Outcome.{TellsRun, EndsWith, TellsYield, CountsReading, EndsUnopened, KeepsSink}
 use Rattle.run_report.specs.Yield.{HandsNothing, says, Gives, Yield}
+use Rattle.run_report.specs.RunReport.{ends_unread}
+use Rattle.run_report.specs.Halt.{Halt, CanHalt, no_halt, not_opened, stopped_after}
+use Rattle.run_report.proofs.OneFile.{stopped_at}
+use Rattle.run_report.proofs.RunReports.{run_of, said_run}
 use Rattle.run_report.proofs.Outcomes.{IsCut, tells_cut, tells_end, missing_none, tells_last, yield_telling, counts_unopened, unopened_own, unopened_undone, counts_by, sink_then, counts_memory, sink_ok, counts_failed, sink_err}
 use Rattle.run_report.proofs.Runs.{run_asked, run_cut}
 use Rattle.run_report.proofs.Yields.{part_text, part_whole, part_none}
@@ -40,7 +44,7 @@ use Rattle.run_report.specs.Listener.{plan_of}
 use Rattle.run_report.proofs.Files.{shown_before}
 use Rattle.run_report.proofs.Leaving.{own_as}
 use Rattle.run_report.specs.declared.status.Status.TheVariants as status
-use Rattle.agree_command.specs.Agree.{AgreeOutcome, agree_came, agree_ended, agree_report, compared_text, difference_lines, merged_in, AgreeYields, agree_status, last_lines, HasAgreement}
+use Rattle.agree_command.specs.Agree.{text_without_a, text_without_b, AgreeOutcome, agree_report, compared_text, difference_lines, merged_in, AgreeYields, agree_status, last_lines, HasAgreement}
 use Rattle.agree_command.specs.Agree.AgreeOutcome.{without_a, without_b, compared, cut_a, cut_b}
 use Rattle.agree_command.specs.state.Comparing.{IsCutIn, HasCompared, Refuses, RefusesTwo, AreTold, ClosesTwo, Compares, ComparesTo, OpensTwo}
 use Rattle.agree_command.specs.state.Comparing.IsCutIn.{in_a, in_b}
@@ -51,38 +55,45 @@ use Rattle.agree_command.specs.declared.comparing.Comparing.{Comparing}
 use Rattle.agree_command.proofs.TwoFiles.{both_closed}
 use Rattle.agree_command.specs.declared.comparing.Compared.TheVariants as ended_as
 
--- ---- the outcome of a run if no read fault occurs
+-- ---- the read fault of a run
 
-pub agree_here : (asked : Agreeing) (files : Files) (fault : Type 0) → AgreeOutcome asked files fault (agree_came asked (files asked.a)) (agree_ended asked (files asked.a) (files asked.b)) (agree_report asked (files asked.a) (files asked.b))
+-- what a run did is what `agree` does under one of the read faults that fit
+abbrev pub AgreeHalts : Agreeing → Files → Type 0 → List (List ℕ) → Status → Yield → Type 0
+AgreeHalts asked files fault came ended yields =
+    (halt : Halt) × CanHalt asked.listener.limit (asked.a ∷ asked.b ∷ []) files fault halt
+    × (run_of came ended yields None ≡ agree_report asked (files asked.a) (files asked.b) halt)
+
+-- some outcome is possible without a read fault
+pub agree_here : (asked : Agreeing) (files : Files) (fault : Type 0) → let report = agree_report asked (files asked.a) (files asked.b) no_halt in AgreeYields asked files fault report.came report.ended report.yields
 agree_here asked files fault = at (files asked.a) (files asked.b) refl refl where
-  at : (a b : Option (List ℕ)) → files asked.a ≡ a → files asked.b ≡ b → AgreeOutcome asked files fault (agree_came asked a) (agree_ended asked a b) (agree_report asked a b)
-  at None b is_a is_b = without_a (inl is_a) refl refl refl
-  at (Some x) None is_a is_b = without_b (subst IsSome (sym is_a) refl) (inl is_b) refl refl refl
-  at (Some x) (Some y) is_a is_b = compared x y is_a is_b refl refl refl
+  at : (a b : Option (List ℕ)) → files asked.a ≡ a → files asked.b ≡ b → let report = agree_report asked a b no_halt in AgreeYields asked files fault report.came report.ended report.yields
+  at None b is_a is_b = (without_a (inl is_a) refl refl refl, refl)
+  at (Some x) None is_a is_b = (without_b (subst IsSome (sym is_a) refl) (inl is_b) refl refl refl, refl)
+  at (Some x) (Some y) is_a is_b = (compared x y is_a is_b refl refl refl, refl)
 
-came_all : (asked : Agreeing) (a : Option (List ℕ)) → IsSome a → agree_came asked a ≡ asked.a ∷ asked.b ∷ []
-came_all asked None some = absurd cc
-came_all asked (Some x) some = refl
+-- `agree` ends with a read fault if A is not opened
+unread_a : (asked : Agreeing) (a b : Option (List ℕ)) → agree_report asked a b (not_opened zero) ≡ ends_unread (asked.a ∷ [])
+unread_a asked None b = refl
+unread_a asked (Some x) b = refl
 
-missing_b : (asked : Agreeing) (a : Option (List ℕ)) → (agree_ended asked a None ≡ status.ReadFault) × (agree_report asked a None ≡ read_fault_line)
-missing_b asked None = (refl, refl)
-missing_b asked (Some x) = (refl, refl)
+-- `agree` ends with a read fault if A is opened and B is not
+unread_b : (asked : Agreeing) (a b : Option (List ℕ)) → IsSome a → (agree_report asked a None no_halt ≡ ends_unread (asked.a ∷ asked.b ∷ [])) × (agree_report asked a b (not_opened (suc zero)) ≡ ends_unread (asked.a ∷ asked.b ∷ []))
+unread_b asked None b some = absurd cc
+unread_b asked (Some x) None some = (refl, refl)
+unread_b asked (Some x) (Some y) some = (refl, refl)
 
--- the outcome of a run without read faults, given the bytes of A and of B, or `None` for a missing file
-abbrev pub ComesTo : Agreeing → List (List ℕ) → Status → List ℕ → Option (List ℕ) → Option (List ℕ) → Type 0
-ComesTo asked came ended text a b = (came ≡ agree_came asked a) × (ended ≡ agree_ended asked a b) × (text ≡ agree_report asked a b)
-
-pub agree_complete : {asked : Agreeing} {files : Files} {fault : Type 0} {came : List (List ℕ)} {ended : Status} {text : List ℕ} → (fault → ⊥) → AgreeOutcome asked files fault came ended text → ComesTo asked came ended text (files asked.a) (files asked.b)
-agree_complete {asked} {files} {fault} {came} {ended} {text} none (without_a (inl is) c e t) = subst (λ (a : Option (List ℕ)). ComesTo asked came ended text a (files asked.b)) (sym is) (c, e, t)
-agree_complete none (without_a (inr f) c e t) = absurd (none f)
-agree_complete {asked} {files} {fault} {came} {ended} {text} none (without_b some (inl is) c e t) =
-    let missing = missing_b asked (files asked.a) in
-    subst (ComesTo asked came ended text (files asked.a)) (sym is) (c ∙ sym (came_all asked (files asked.a) some), e ∙ sym missing.0, t ∙ sym missing.1)
-agree_complete none (without_b some (inr f) c e t) = absurd (none f)
-agree_complete {asked} {files} {fault} {came} {ended} {text} none (compared x y is_a is_b c e t) =
-    subst (λ (a : Option (List ℕ)). ComesTo asked came ended text a (files asked.b)) (sym is_a) (subst (ComesTo asked came ended text (Some x)) (sym is_b) (c, e, t))
-agree_complete none (cut_a x y prefix is_a is_b c ends e t) = absurd (none ends.0)
-agree_complete none (cut_b x y prefix is_a is_b c ends e t) = absurd (none ends.0)
+pub agree_halts : (asked : Agreeing) (files : Files) (fault : Type 0) (came : List (List ℕ)) (ended : Status) (yields : Yield) → yields.items ≡ [] → AgreeOutcome asked files fault came ended yields.text → AgreeHalts asked files fault came ended yields
+agree_halts asked files fault came ended yields none (without_a (inl is) c e t) = (no_halt, tt, rw is (said_run came _ ended _ yields _ None None none c e t refl))
+agree_halts asked files fault came ended yields none (without_a (inr f) c e t) = (not_opened zero, f, said_run came _ ended _ yields _ None None none c e t refl ∙ sym (unread_a asked (files asked.a) (files asked.b)))
+agree_halts asked files fault came ended yields none (without_b some (inl is) c e t) = (no_halt, tt, said_run came _ ended _ yields _ None None none c e t refl ∙ sym (ap (λ (b : Option (List ℕ)). agree_report asked (files asked.a) b no_halt) is ∙ (unread_b asked (files asked.a) None some).0))
+agree_halts asked files fault came ended yields none (without_b some (inr f) c e t) = (not_opened (suc zero), f, said_run came _ ended _ yields _ None None none c e t refl ∙ sym (unread_b asked (files asked.a) (files asked.b) some).1)
+agree_halts asked files fault came ended yields none (compared x y is_a is_b c e t) = (no_halt, tt, rw (is_a, is_b) (said_run came _ ended _ yields _ None None none c e t refl))
+agree_halts asked files fault came ended yields none (cut_a x y prefix is_a is_b c ends e t) =
+    let at = stopped_at asked.listener.limit x prefix fault ends in
+    (stopped_after zero (length prefix), (at.1, rw is_a at.2), rw (is_a, is_b) (said_run came _ ended _ yields _ None None none c e (t ∙ ap (λ (p : List ℕ). text_without_a asked p y) at.0) refl))
+agree_halts asked files fault came ended yields none (cut_b x y prefix is_a is_b c ends e t) =
+    let at = stopped_at asked.listener.limit y prefix fault ends in
+    (stopped_after (suc zero) (length prefix), (at.1, rw is_b at.2), rw (is_a, is_b) (said_run came _ ended _ yields _ None None none c e (t ∙ ap (text_without_b asked x) at.0) refl))
 
 -- ---- both files were opened
 
@@ -152,8 +163,9 @@ unopened_run : {asked : Agreeing} {all : Files} {s t : ShelfState} {h h' : SinkS
     → TellsRun (AgreeYields asked all (Rose s.reading_faults t.reading_faults)) HandsNothing s t (written h.held w) (written h'.held w') result
 unopened_run {asked} {all} {s} {t} {h} {h'} {w} {w'} {result} open_fault.Memory name came told refuses ends outcome asks =
     let left = ends.memory refl in
-    let yields = says (agree_report asked (all asked.a) (all asked.b)) in
-    run_cut (AgreeYields asked all (Rose s.reading_faults t.reading_faults)) (agree_came asked (all asked.a)) (agree_ended asked (all asked.a) (all asked.b)) yields (agree_here asked all _, refl) (subst IsCut (sym left.0) (inl refl)) (part_none refl yields left.1)
+    let report = agree_report asked (all asked.a) (all asked.b) no_halt in
+    let yields = report.yields in
+    run_cut (AgreeYields asked all (Rose s.reading_faults t.reading_faults)) report.came report.ended yields (agree_here asked all _) (subst IsCut (sym left.0) (inl refl)) (part_none refl yields left.1)
 unopened_run {asked} {all} {s} {t} {h} {h'} {w} {w'} open_fault.Missing name came told refuses ends outcome asks =
     run_asked (AgreeYields asked all (Rose s.reading_faults t.reading_faults)) came
     (tells_last (yield_telling (written h.held w) (written h'.held w') read_fault_line refl) (outcome (inl (missing_none s.files name all told (refuses.missing refl))), refl) (ends.other (λ e. cc))) asks

@@ -22,9 +22,8 @@ use Rattle.run_report.proofs.Leaving.{never_ends, only_read}
 use Rattle.run_report.proofs.Outcomes.{ends_not, sink_then, counts_failed, sink_failed}
 use Rattle.run_report.proofs.Runs.{tells_all, through_as}
 use Rattle.run_report.specs.declared.status.Status.TheVariants as status
-use Rattle.listen_command.specs.Listen.{device_notice, device_status, listen_plan, ListenOutcome}
-use Rattle.avtp_tool.specs.Run.{Outcome}
-use Rattle.avtp_tool.specs.state.Run.{task_of}
+use Rattle.listen_command.specs.Listen.{device_notice, device_status, listen_plan}
+use Rattle.avtp_tool.specs.state.Run.{ListenOutcome, Outcome, task_of}
 
 joins_text : (handed : List Shown → Type 0) → Joins handed HandsNothing handed
 joins_text handed xs ys first none = subst handed (sym (append-nil xs) ∙ ap (λ (l : List Shown). xs ++ l) (sym none)) first

@@ -23,8 +23,8 @@ use Rattle.run_report.specs.Runs.{IsThrough, Runs}
 use Rattle.run_report.proofs.Leaving.{never_ends, only_read}
 use Rattle.run_report.proofs.Yields.{gives_as, part_as}
 use Rattle.run_report.specs.declared.status.Status.TheVariants as status
-use Rattle.avtp_tool.specs.Run.{Outcome, again_of, is_listening}
-use Rattle.avtp_tool.specs.state.Run.{task_of}
+use Rattle.avtp_tool.specs.Run.{again_of, is_listening}
+use Rattle.avtp_tool.specs.state.Run.{Outcome, task_of}
 
 single : {a b : ShelfState} {before now : Option (List ℕ)} {handed : List Shown → Type 0} {result : Result Status Failed} (one : List ℕ → Status → Yield → Type 0) (name : List ℕ) → TellsYield (one name) handed before now result → Asks (name ∷ []) a b
     → TellsRun (InOrder one (name ∷ [])) handed a b before now result

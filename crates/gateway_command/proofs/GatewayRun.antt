@@ -1,5 +1,5 @@
 -- The outcomes of `gateway`.
-use Rattle.std.proofs.Common.{◌≡◌, ℕ, List, take, Some, subst, Option, None, refl, sym, inl, ◌≢◌, [], ◌∷◌, inr, ◌∙◌, ◌++◌, ap, Bool, true, false, length, arith, ◌^◌, ◌<◌}
+use Rattle.std.proofs.Common.{zero, suc, ◌≡◌, ℕ, List, take, Some, subst, Option, None, refl, sym, inl, ◌≢◌, [], ◌∷◌, inr, ◌∙◌, ◌++◌, ap, Bool, true, false, length, arith, ◌^◌, ◌<◌}
 use Rattle.std.specs.Prelude.{◌==◌, if◌then◌else◌, IfSome}
 use Rattle.std.proofs.lemmas.Bool.{eqb-true}
 use Rattle.std.specs.List.{AllByRecursion}
@@ -26,13 +26,17 @@ use Rattle.capture_io.specs.declared.end.End.TheVariants as end
 use Rattle.run_report.specs.declared.status.Status.{Status}
 use Rattle.run_report.specs.Endings.{side_line}
 use Rattle.run_report.specs.Status.{status_of}
-use Rattle.run_report.proofs.OneFile.{by_end}
+use Rattle.run_report.proofs.OneFile.{stopped_at}
+use Rattle.run_report.proofs.RunReports.{run_of, said_run}
+use Rattle.run_report.specs.Halt.{Halt, CanHalt, no_halt, not_opened, stopped_after}
+use Rattle.run_report.specs.RunReport.{ends_unread}
+use Rattle.run_report.specs.Yield.{Yield}
 use Rattle.run_report.specs.Listener.{plan_of}
 use Rattle.run_report.specs.declared.status.Status.TheVariants as status
-use Rattle.gateway_command.specs.Gateway.{GatewayOutcome, HearsInput, batches_by, came_by, cut, ended_by, fault_in, faulty, made_by, records_of, shape_asked, text_by, turned, gateway_came, gateway_ended, gateway_made, gateway_report, unopened, skipped_at, skips_after, turned_status, KeepsInput, format_of, skips_in, turned_capture}
+use Rattle.gateway_command.specs.Gateway.{CanTurn, GatewayOutcome, GatewayYields, HearsInput, batches_by, cut, fault_in, faulty, gateway_by, gateway_report, records_of, shape_asked, turned, turned_by, unopened, unturned, skipped_at, skips_after, turned_status, KeepsInput, format_of, skips_in, turned_capture}
 use Rattle.gateway_command.proofs.Silent.{silent}
 
--- ---- if no read fault occurs
+-- ---- the read fault of a run
 
 never_fault : (limit : ℕ) (bytes : List ℕ) → end_of limit bytes ≡ end.ReadFault → ⊥
 never_fault limit bytes e = (subst (λ (h : End). EndsAt limit (Some bytes) ⊥ h (take limit bytes)) e (ends_here limit bytes ⊥)).0
@@ -40,64 +44,72 @@ never_fault limit bytes e = (subst (λ (h : End). EndsAt limit (Some bytes) ⊥ 
 -- the outcome of a run without read faults, given the first record that cannot be converted, if any, and how the scan
 -- ended
 here_by : (asked : Turning) (files : Files) (fault : Type 0) (bytes : List ℕ) (at : Option FaultAt) (how : End) → files asked.input ≡ Some bytes → fault_in asked (records_of asked bytes) ≡ at → end_of asked.listener.limit bytes ≡ how
-    → GatewayOutcome asked files fault (came_by asked at how) (ended_by asked (records_of asked bytes) at how) (text_by asked (records_of asked bytes) at how) (made_by asked (records_of asked bytes) at how)
-here_by asked files fault bytes (Some at) how is found ends = faulty bytes at is found refl refl refl refl
+    → GatewayYields asked files fault (gateway_by asked bytes no_halt at how).came (gateway_by asked bytes no_halt at how).ended (gateway_by asked bytes no_halt at how).yields (gateway_by asked bytes no_halt at how).made
+here_by asked files fault bytes (Some at) how is found ends = (faulty bytes at is found refl refl refl refl, refl)
 here_by asked files fault bytes None end.Whole is none ends =
     let prefix : List ℕ = take asked.listener.limit bytes in
     let hears : HearsInput asked files fault (shape_asked asked (records_of asked bytes)) (batches_by asked (records_in prefix) end.Whole) end.Whole = record { bytes = bytes; prefix = prefix; told = is; can = record { whole = ends; none = none }; ends = (sym ends, refl); shape_is = refl; presented = refl } in
-    turned (shape_asked asked (records_of asked bytes)) (batches_by asked (records_in prefix) end.Whole) end.Whole hears refl refl refl refl
-here_by asked files fault bytes None (end.Refused refusal) is none ends = cut bytes (take asked.listener.limit bytes) (end.Refused refusal) is (sym ends, refl) (λ e. cc) none refl refl refl refl
+    (turned (shape_asked asked (records_of asked bytes)) (batches_by asked (records_in prefix) end.Whole) end.Whole hears refl refl refl refl, refl)
+here_by asked files fault bytes None (end.Refused refusal) is none ends = (cut bytes (take asked.listener.limit bytes) (end.Refused refusal) is (sym ends, refl) (λ e. cc) none refl refl refl refl, refl)
 here_by asked files fault bytes None end.ReadFault is none ends = absurd (never_fault asked.listener.limit bytes ends)
-here_by asked files fault bytes None end.Limit is none ends = cut bytes (take asked.listener.limit bytes) end.Limit is (sym ends, refl) (λ e. cc) none refl refl refl refl
+here_by asked files fault bytes None end.Limit is none ends = (cut bytes (take asked.listener.limit bytes) end.Limit is (sym ends, refl) (λ e. cc) none refl refl refl refl, refl)
 
-pub gateway_here : (asked : Turning) (files : Files) (fault : Type 0)
-    → GatewayOutcome asked files fault (gateway_came asked (files asked.input)) (gateway_ended asked (files asked.input)) (gateway_report asked (files asked.input)) (gateway_made asked (files asked.input))
+pub gateway_here : (asked : Turning) (files : Files) (fault : Type 0) → let report = gateway_report asked (files asked.input) no_halt in GatewayYields asked files fault report.came report.ended report.yields report.made
 gateway_here asked files fault = at (files asked.input) refl where
-  at : (told : Option (List ℕ)) → files asked.input ≡ told → GatewayOutcome asked files fault (gateway_came asked told) (gateway_ended asked told) (gateway_report asked told) (gateway_made asked told)
-  at None is = unopened (inl is) refl refl refl refl
+  at : (told : Option (List ℕ)) → files asked.input ≡ told → let report = gateway_report asked told no_halt in GatewayYields asked files fault report.came report.ended report.yields report.made
+  at None is = (unopened (inl is) refl refl refl refl, refl)
   at (Some bytes) is = here_by asked files fault bytes (fault_in asked (records_of asked bytes)) (end_of asked.listener.limit bytes) is refl refl
 
--- ---- any other outcome needs a read fault
+-- a read fault of one of the two readings of IN
+abbrev pub CanGatewayHalt : Turning → Files → Type 0 → Halt → Type 0
+CanGatewayHalt asked files fault halt = CanHalt asked.listener.limit (asked.input ∷ asked.input ∷ []) files fault halt
 
--- the outcome of a run without read faults, given the bytes of IN, or `None` if IN is missing
-abbrev pub TurnsOut : Turning → List (List ℕ) → Status → List ℕ → Option (List ℕ) → Option (List ℕ) → Type 0
-TurnsOut asked came ended text made told = (came ≡ gateway_came asked told) × (ended ≡ gateway_ended asked told) × (text ≡ gateway_report asked told) × (made ≡ gateway_made asked told)
+-- what a run did is what `gateway` does under one of the read faults that fit
+abbrev pub GatewayHalts : Turning → Files → Type 0 → List (List ℕ) → Status → Yield → Option (List ℕ) → Type 0
+GatewayHalts asked files fault came ended yields made =
+    (halt : Halt) × CanGatewayHalt asked files fault halt × (run_of came ended yields made ≡ gateway_report asked (files asked.input) halt)
 
--- the outcome of a run without read faults, given the first record that cannot be converted, if any, and how the scan
--- ended
-abbrev pub TurnsBy : Turning → List Record → List (List ℕ) → Status → List ℕ → Option (List ℕ) → Option FaultAt → End → Type 0
-TurnsBy asked records came ended text made at how = (came ≡ came_by asked at how) × (ended ≡ ended_by asked records at how) × (text ≡ text_by asked records at how) × (made ≡ made_by asked records at how)
+unread_is : (asked : Turning) (told : Option (List ℕ)) → gateway_report asked told (not_opened zero) ≡ ends_unread (asked.input ∷ [])
+unread_is asked None = refl
+unread_is asked (Some bytes) = refl
 
-turns_told : (asked : Turning) {came : List (List ℕ)} {ended : Status} {text : List ℕ} {made : Option (List ℕ)} (files : Files) (bytes : List ℕ) (at : Option FaultAt) (how : End)
-    → files asked.input ≡ Some bytes → fault_in asked (records_of asked bytes) ≡ at → how ≡ end_of asked.listener.limit bytes → TurnsBy asked (records_of asked bytes) came ended text made at how → TurnsOut asked came ended text made (files asked.input)
-turns_told asked {came} {ended} {text} {made} files bytes at how is found ends by =
-    subst (TurnsOut asked came ended text made) (sym is)
-    (subst (λ (a : Option FaultAt). TurnsBy asked (records_of asked bytes) came ended text made a (end_of asked.listener.limit bytes)) (sym found)
-    (subst (TurnsBy asked (records_of asked bytes) came ended text made at) ends by))
+-- the scan was cut short, and each scanned record can be converted
+cut_halts : (asked : Turning) (files : Files) (fault : Type 0) (bytes prefix : List ℕ) (how : End) → files asked.input ≡ Some bytes → EndsAt asked.listener.limit (Some bytes) fault how prefix → how ≢ end.Whole → fault_in asked (records_in prefix) ≡ None
+    → (halt : Halt) × CanGatewayHalt asked files fault halt × (unturned asked (status_of how) (side_line asked.listener.limit how) ≡ gateway_report asked (files asked.input) halt)
+cut_halts asked files fault bytes prefix end.Whole is ends other clean = absurd (other refl)
+cut_halts asked files fault bytes prefix (end.Refused refusal) is ends other clean =
+    let good : fault_in asked (records_of asked bytes) ≡ None = subst (λ (p : List ℕ). fault_in asked (records_in p) ≡ None) ends.1 clean in
+    (no_halt, tt, rw (is, good, sym ends.0) refl)
+cut_halts asked files fault bytes prefix end.Limit is ends other clean =
+    let good : fault_in asked (records_of asked bytes) ≡ None = subst (λ (p : List ℕ). fault_in asked (records_in p) ≡ None) ends.1 clean in
+    (no_halt, tt, rw (is, good, sym ends.0) refl)
+cut_halts asked files fault bytes prefix end.ReadFault is ends other clean =
+    let at = stopped_at asked.listener.limit bytes prefix fault ends in
+    let good : fault_in asked (records_in (take (length prefix) bytes)) ≡ None = subst (λ (p : List ℕ). fault_in asked (records_in p) ≡ None) at.0 clean in
+    (stopped_after zero (length prefix), (at.1, rw is at.2), rw (is, good) refl)
 
-cut_by : (asked : Turning) (records : List Record) (came : List (List ℕ)) (ended : Status) (text : List ℕ) (made : Option (List ℕ)) (how : End) → how ≢ end.Whole → came ≡ asked.input ∷ [] → ended ≡ status_of how → text ≡ side_line asked.listener.limit how → made ≡ None
-    → TurnsBy asked records came ended text made None how
-cut_by asked records came ended text made end.Whole other c e t m = absurd (other refl)
-cut_by asked records came ended text made (end.Refused refusal) other c e t m = (c, e, t, m)
-cut_by asked records came ended text made end.ReadFault other c e t m = (c, e, t, m)
-cut_by asked records came ended text made end.Limit other c e t m = (c, e, t, m)
+-- IN was scanned, OUT was made, and IN was read again
+turned_halts : (asked : Turning) (files : Files) (fault : Type 0) (bytes prefix : List ℕ) (how : End) → files asked.input ≡ Some bytes → CanTurn asked bytes → EndsAt asked.listener.limit (Some bytes) fault how prefix
+    → (halt : Halt) × CanGatewayHalt asked files fault halt × (turned_by asked (shape_asked asked (records_of asked bytes)) (batches_by asked (records_in prefix) how) how ≡ gateway_report asked (files asked.input) halt)
+turned_halts asked files fault bytes prefix end.Whole is can ends = (no_halt, tt, rw (is, can.none, can.whole, ends.1) refl)
+turned_halts asked files fault bytes prefix (end.Refused refusal) is can ends = absurd (let e : end.Refused refusal ≡ end.Whole = ends.0 ∙ can.whole in cc)
+turned_halts asked files fault bytes prefix end.Limit is can ends = absurd (let e : end.Limit ≡ end.Whole = ends.0 ∙ can.whole in cc)
+turned_halts asked files fault bytes prefix end.ReadFault is can ends =
+    let at = stopped_at asked.listener.limit bytes prefix fault ends in
+    (stopped_after (suc zero) (length prefix), (at.1, rw is at.2),
+      rw (is, can.none, can.whole) (ap (λ (p : List ℕ). turned_by asked (shape_asked asked (records_of asked bytes)) (batches_by asked (records_in p) end.ReadFault) end.ReadFault) at.0))
 
-pub gateway_complete : {asked : Turning} {files : Files} {fault : Type 0} {came : List (List ℕ)} {ended : Status} {text : List ℕ} {made : Option (List ℕ)} → (fault → ⊥) → GatewayOutcome asked files fault came ended text made
-    → TurnsOut asked came ended text made (files asked.input)
-gateway_complete {asked} {files} {fault} {came} {ended} {text} {made} none (unopened (inl is) c e t m) = subst (TurnsOut asked came ended text made) (sym is) (c, e, t, m)
-gateway_complete none (unopened (inr f) c e t m) = absurd (none f)
-gateway_complete {asked} {files} none (faulty bytes at is found c e t m) = turns_told asked files bytes (Some at) (end_of asked.listener.limit bytes) is found refl (c, e, t, m)
-gateway_complete {asked} {files} {fault} {came} {ended} {text} {made} none (cut bytes prefix how is ends other clean c e t m) =
-    let at = by_end asked.listener.limit bytes prefix fault how none ends in
-    turns_told asked files bytes None how is (subst (λ (p : List ℕ). fault_in asked (records_in p) ≡ None) at.1 clean) at.0 (cut_by asked (records_of asked bytes) came ended text made how other c e t m)
-gateway_complete {asked} {files} {fault} {came} {ended} {text} {made} none (turned shape batches how hears c e t m) =
-    let bytes = hears.bytes in
-    let at = by_end asked.listener.limit bytes hears.prefix fault how none hears.ends in
-    let whole : how ≡ end.Whole = at.0 ∙ hears.can.whole in
-    let all : batches ≡ batches_by asked (records_of asked bytes) end.Whole = hears.presented ∙ rw (whole, at.1) refl in
-    let by : TurnsBy asked (records_of asked bytes) came ended text made None end.Whole =
-    (c, e ∙ rw (whole, all, hears.shape_is) refl, t ∙ rw (whole, all, hears.shape_is) refl, m ∙ rw (all, hears.shape_is) refl) in
-    turns_told asked files bytes None end.Whole hears.told hears.can.none (sym hears.can.whole) by
+pub gateway_halts : (asked : Turning) (files : Files) (fault : Type 0) (came : List (List ℕ)) (ended : Status) (yields : Yield) (made : Option (List ℕ)) → GatewayYields asked files fault came ended yields made → GatewayHalts asked files fault came ended yields made
+gateway_halts asked files fault came ended yields made (unopened (inl is) c e t m, none) = (no_halt, tt, rw is (said_run came _ ended _ yields _ made _ none c e t m))
+gateway_halts asked files fault came ended yields made (unopened (inr f) c e t m, none) = (not_opened zero, f, said_run came _ ended _ yields _ made _ none c e t m ∙ sym (unread_is asked (files asked.input)))
+gateway_halts asked files fault came ended yields made (faulty bytes at is found c e t m, none) = (no_halt, tt, rw (is, found) (said_run came _ ended _ yields _ made _ none c e t m))
+gateway_halts asked files fault came ended yields made (cut bytes prefix how is ends other clean c e t m, none) =
+    let at = cut_halts asked files fault bytes prefix how is ends other clean in
+    (at.0, at.1, said_run came _ ended _ yields _ made _ none c e t m ∙ at.2)
+gateway_halts asked files fault came ended yields made (turned shape batches how hears c e t m, none) =
+    let at = turned_halts asked files fault hears.bytes hears.prefix how hears.told hears.can hears.ends in
+    let same : turned_by asked shape batches how ≡ turned_by asked (shape_asked asked (records_of asked hears.bytes)) (batches_by asked (records_in hears.prefix) how) how = rw (hears.shape_is, hears.presented) refl in
+    (at.0, at.1, said_run came _ ended _ yields _ made _ none c e t m ∙ (same ∙ at.2))
 
 -- ---- what the capture keeps
 

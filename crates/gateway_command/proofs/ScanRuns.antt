@@ -32,9 +32,10 @@ use Rattle.run_report.specs.Made.{MakesOutput, CountsWriting}
 use Rattle.run_report.proofs.Yields.{part_none, part_text}
 use Rattle.run_report.proofs.Files.{missing_before, shown_still}
 use Rattle.run_report.specs.declared.status.Status.TheVariants as status
-use Rattle.gateway_command.specs.Gateway.{gateway_task, GatewayYields, GatewayOutcome, fault_line, faulty, cut, gateway_came, gateway_ended, gateway_made, gateway_report, unopened, CanTurn, HearsInput, batches_by, records_of, shape_asked, turned}
+use Rattle.gateway_command.specs.Gateway.{gateway_task, GatewayYields, GatewayOutcome, fault_line, faulty, cut, gateway_report, unopened, CanTurn, HearsInput, batches_by, records_of, shape_asked, turned}
 use Rattle.gateway_command.specs.state.Scanning.{ScansFile}
 use Rattle.gateway_command.proofs.GatewayRun.{gateway_here}
+use Rattle.run_report.specs.Halt.{no_halt}
 use Rattle.gateway_command.specs.declared.scanning.Scanned.{Scanned}
 use Rattle.gateway_command.specs.state.Gateway.{TurnedOutcome, is_of_gateway, TurnsFile}
 use Rattle.gateway_command.specs.declared.scanning.Scanned.TheVariants as scanned
@@ -96,12 +97,13 @@ unopened_tells : {s t : ShelfState} {h h' : SinkState} {l l' : List ℕ} {result
     → TellsAll (gateway_task asked) all (Rose s.reading_faults t.reading_faults) false HandsNothing s t (written h.held l) (written h'.held l') result
 unopened_tells {s} {t} {h} {h'} {l} {l'} {result} asked open_fault.Memory all told keeps missing counted ends =
     let left = ends.memory refl in
-    let made : Option (List ℕ) = gateway_made asked (all asked.input) in
-    let yields = says (gateway_report asked (all asked.input)) in
+    let report = gateway_report asked (all asked.input) no_halt in
+    let made = report.made in
+    let yields = report.yields in
     let is_cut : IsCut result = subst IsCut (sym left.0) (inl refl) in
     record {
       made = made;
-      tells = run_cut (λ came e ys. GatewayYields asked all (Rose s.reading_faults t.reading_faults) came e ys made) (gateway_came asked (all asked.input)) (gateway_ended asked (all asked.input)) yields (gateway_here asked all _, refl) is_cut (part_none refl yields left.1);
+      tells = run_cut (λ came e ys. GatewayYields asked all (Rose s.reading_faults t.reading_faults) came e ys made) report.came report.ended yields (gateway_here asked all _) is_cut (part_none refl yields left.1);
       whole = subst (λ (r : Result Status Failed). IfOk r (λ e. e ≢ status.Memory → e ≢ status.WriteFault → MakesOutput (Some asked.output) made s.files t.files)) (sym left.0) (λ memory write. absurd (memory refl));
       begun = part_kept (Some asked.output) made s.files t.files keeps.files;
     }

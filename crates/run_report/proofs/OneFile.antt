@@ -1,5 +1,6 @@
 -- A file that is read, and its possible outcomes.
-use Rattle.std.proofs.Common.{◌≡◌, ℕ, List, take, Some, Option, None, refl, inl, inr, sym, subst, ap, ◌∙◌}
+use Rattle.std.proofs.lemmas.List.{length-take-le, take-append-drop}
+use Rattle.std.proofs.Common.{drop, zero, [], ◌∷◌, ◌++◌, length, length-append, arith, ◌≡◌, ℕ, List, take, Some, Option, None, refl, inl, inr, sym, subst, ap, ◌∙◌}
 use Rattle.std.specs.Prelude.{◌⊎◌}
 use Rattle.capture_io.specs.declared.end.End.{End}
 use Rattle.capture_io.specs.Ends.{EndsAt, end_of}
@@ -7,10 +8,11 @@ use Rattle.capture_io.proofs.Ending.{ends_here, ends_weaker}
 use Rattle.avtp_text.specs.Notices.{read_fault_line}
 use Rattle.pcap_frames.specs.Capture.{Record}
 use Rattle.capture_io.specs.Source.{EndsAfter}
-use Rattle.capture_io.specs.Formats.{records_in}
+use Rattle.capture_io.specs.Formats.{records_in, certain_in}
 use Rattle.capture_io.specs.declared.end.End.TheVariants as end
 use Rattle.run_report.specs.Reading.{FileOutcome, file_status, file_yield, Report}
 use Rattle.run_report.specs.Yield.{says, Yield}
+use Rattle.run_report.specs.Halt.{CanStop, no_halt, not_opened, stopped_after}
 use Rattle.run_report.specs.declared.status.Status.{Status}
 use Rattle.run_report.specs.Outcome.{Only}
 use Rattle.run_report.specs.declared.status.Status.TheVariants as status
@@ -23,7 +25,7 @@ by_end limit bytes prefix fault end.ReadFault none ends = absurd (none ends.0)
 by_end limit bytes prefix fault end.Limit none ends = ends
 
 -- the outcome of a file if no read fault occurs
-pub file_here : (report : Report) (limit : ℕ) (told : Option (List ℕ)) (fault : Type 0) → FileOutcome report limit told fault (file_status report limit told) (file_yield report limit told)
+pub file_here : (report : Report) (limit : ℕ) (told : Option (List ℕ)) (fault : Type 0) → FileOutcome report limit told fault (file_status report limit told no_halt) (file_yield report limit told no_halt)
 file_here report limit None fault = (refl, refl)
 file_here report limit (Some bytes) fault = inl (record { how = end_of limit bytes; prefix = take limit bytes; ends = ends_here limit bytes fault; status = refl; given = refl })
 
@@ -53,13 +55,43 @@ file_weaker report limit (Some bytes) fault other ended yields weaker (inl read)
     inl (record { how = read.how; prefix = read.prefix; ends = ends_weaker limit (Some bytes) fault other read.how read.prefix weaker read.ends; status = read.status; given = read.given })
 file_weaker report limit (Some bytes) fault other ended yields weaker (inr (cause, is, all)) = inr (weaker cause, is, all)
 
--- ---- files
+-- ---- the read fault
 
-pub complete_file : (report : Report) (limit : ℕ) (told : Option (List ℕ)) (fault : Type 0) (ended : Status) (yields : Yield) → (fault → ⊥) → FileOutcome report limit told fault ended yields → (ended ≡ file_status report limit told) × (yields ≡ file_yield report limit told)
-complete_file report limit None fault ended yields none o = o
-complete_file report limit (Some bytes) fault ended yields none (inl read) =
-    let at = by_end limit bytes read.prefix fault read.how none read.ends in (
-      read.status ∙ ap (λ (p : List ℕ). report.status (records_in p) read.how) at.1 ∙ ap (λ (h : End). report.status (records_in (take limit bytes)) h) at.0,
-      read.given ∙ ap (λ (p : List ℕ). report.yields (records_in p) read.how) at.1 ∙ ap (λ (h : End). report.yields (records_in (take limit bytes)) h) at.0,
+take_front : (xs ys : List ℕ) → take (length xs) (xs ++ ys) ≡ xs
+take_front [] ys = refl
+take_front (x ∷ xs) ys = ap (λ (l : List ℕ). x ∷ l) (take_front xs ys)
+
+-- the bytes that were read before a read fault stopped the reading
+pub stopped_at : (limit : ℕ) (bytes prefix : List ℕ) (fault : Type 0) → EndsAt limit (Some bytes) fault end.ReadFault prefix
+    → (prefix ≡ take (length prefix) bytes) × fault × CanStop limit (Some bytes) (length prefix)
+stopped_at limit bytes prefix fault (cause, (rest, split, within, certain)) =
+    let front : prefix ≡ take (length prefix) bytes = sym (ap (take (length prefix)) split ∙ take_front prefix rest) in (
+      front,
+      cause,
+      (within, omega (arith, ap length split, length-append prefix rest), subst (λ (p : List ℕ). certain_in p ≡ None) front certain),
     )
-complete_file report limit (Some bytes) fault ended yields none (inr unopened) = absurd (none unopened.0)
+
+-- the reading of a file stopped after its first `after` bytes
+pub stops_here : (limit : ℕ) (bytes : List ℕ) (after : ℕ) (fault : Type 0) → fault → CanStop limit (Some bytes) after → EndsAt limit (Some bytes) fault end.ReadFault (take after bytes)
+stops_here limit bytes after fault cause (within, fits, certain) =
+    (cause, (drop after bytes, sym (take-append-drop after bytes), omega (arith, within, fits, length-take-le after bytes), certain))
+
+-- A file's outcome, as the status and the yield of the file under one of the read faults that fit.
+pub data FileHalts (report : Report) (limit : ℕ) (told : Option (List ℕ)) (fault : Type 0) (ended : Status) (yields : Yield) : Type 0 where
+  through : ended ≡ file_status report limit told no_halt → yields ≡ file_yield report limit told no_halt → FileHalts report limit told fault ended yields
+  refused : fault → ended ≡ file_status report limit told (not_opened zero) → yields ≡ file_yield report limit told (not_opened zero) → FileHalts report limit told fault ended yields
+  halted : (after : ℕ) → fault → CanStop limit told after → ended ≡ file_status report limit told (stopped_after zero after) → yields ≡ file_yield report limit told (stopped_after zero after) → FileHalts report limit told fault ended yields
+
+read_halts : (report : Report) (limit : ℕ) (bytes prefix : List ℕ) (fault : Type 0) (how : End) (ended : Status) (yields : Yield) → EndsAt limit (Some bytes) fault how prefix
+    → ended ≡ report.status (records_in prefix) how → yields ≡ report.yields (records_in prefix) how → FileHalts report limit (Some bytes) fault ended yields
+read_halts report limit bytes prefix fault end.ReadFault ended yields ends is all =
+    let at = stopped_at limit bytes prefix fault ends in
+    halted (length prefix) at.1 at.2 (is ∙ ap (λ (p : List ℕ). report.status (records_in p) end.ReadFault) at.0) (all ∙ ap (λ (p : List ℕ). report.yields (records_in p) end.ReadFault) at.0)
+read_halts report limit bytes prefix fault end.Whole ended yields ends is all = through (is ∙ rw (ends.0, ends.1) refl) (all ∙ rw (ends.0, ends.1) refl)
+read_halts report limit bytes prefix fault (end.Refused refusal) ended yields ends is all = through (is ∙ rw (ends.0, ends.1) refl) (all ∙ rw (ends.0, ends.1) refl)
+read_halts report limit bytes prefix fault end.Limit ended yields ends is all = through (is ∙ rw (ends.0, ends.1) refl) (all ∙ rw (ends.0, ends.1) refl)
+
+pub file_halts : (report : Report) (limit : ℕ) (told : Option (List ℕ)) (fault : Type 0) (ended : Status) (yields : Yield) → FileOutcome report limit told fault ended yields → FileHalts report limit told fault ended yields
+file_halts report limit None fault ended yields (is, all) = through is all
+file_halts report limit (Some bytes) fault ended yields (inl read) = read_halts report limit bytes read.prefix fault read.how ended yields read.ends read.status read.given
+file_halts report limit (Some bytes) fault ended yields (inr (cause, is, all)) = refused cause is all
