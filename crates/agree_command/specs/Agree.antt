@@ -27,8 +27,8 @@ use Rattle.run_report.specs.declared.status.Status.{Status}
 use Rattle.run_report.specs.Status.{status_of}
 use Rattle.run_report.specs.Listener.{plan_of}
 use Rattle.run_report.specs.Yield.{Yield, says}
-use Rattle.run_report.specs.RunReport.{RunReport, ends_unread}
-use Rattle.run_report.specs.Halt.{Halt, no_halt, not_opened, stopped_after}
+use Rattle.run_report.specs.RunReport.{Halts, RunReport, ends_unread}
+use Rattle.run_report.specs.Halt.{CanHalt, Halt, no_halt, not_opened, stopped_after}
 use Rattle.run_report.specs.declared.status.Status.TheVariants as status
 
 -- ---- lines
@@ -136,25 +136,7 @@ pub record IsAgreeing (asked : Agreeing) : Type 0 where
   pub limit : asked.listener.limit ≤ 2 ^ 40
   pub plan : IsPlan (schedule_plan (plan_of asked.listener))
 
--- ---- the contract of `agree`
-
--- The possible outcomes of a run of `agree` over these files: the names that the run asks for, its status, and its
--- text. A read fault is possible only if `fault` holds.
-pub data AgreeOutcome (asked : Agreeing) (files : Files) (fault : Type 0) (came : List (List ℕ)) (ended : Status) (text : List ℕ) : Type 0 where
-  -- A was not opened.
-  without_a : IsUnopened files fault asked.a → came ≡ asked.a ∷ [] → ended ≡ status.ReadFault → text ≡ read_fault_line → AgreeOutcome asked files fault came ended text
-  -- A was opened, and B was not.
-  without_b : IsSome (files asked.a) → IsUnopened files fault asked.b → came ≡ asked.a ∷ asked.b ∷ [] → ended ≡ status.ReadFault → text ≡ read_fault_line → AgreeOutcome asked files fault came ended text
-  -- Both files were opened, and each was read to its end, to a refused field or to the limit.
-  compared : (x y : List ℕ) → files asked.a ≡ Some x → files asked.b ≡ Some y → came ≡ asked.a ∷ asked.b ∷ []
-      → ended ≡ compared_status asked x y → text ≡ compared_text asked x y → AgreeOutcome asked files fault came ended text
-  -- A read fault occurred after a prefix of A.
-  cut_a : (x y prefix : List ℕ) → files asked.a ≡ Some x → files asked.b ≡ Some y → came ≡ asked.a ∷ asked.b ∷ []
-      → EndsAt asked.listener.limit (Some x) fault end.ReadFault prefix → ended ≡ status.ReadFault → text ≡ text_without_a asked prefix y → AgreeOutcome asked files fault came ended text
-  -- A read fault occurred after a prefix of B.
-  cut_b : (x y prefix : List ℕ) → files asked.a ≡ Some x → files asked.b ≡ Some y → came ≡ asked.a ∷ asked.b ∷ []
-      → EndsAt asked.listener.limit (Some y) fault end.ReadFault prefix → ended ≡ status.ReadFault → text ≡ text_without_b asked x prefix → AgreeOutcome asked files fault came ended text
-
--- what a run of `agree` over these files can result in: the names that the run asks for, the status, and the yield
+-- what a run of `agree` over these files did, under one of the read faults that are possible
 abbrev pub AgreeYields : Agreeing → Files → Type 0 → List (List ℕ) → Status → Yield → Type 0
-AgreeYields asked files fault came ended yields = AgreeOutcome asked files fault came ended yields.text × (yields.items ≡ [])
+AgreeYields asked files fault came ended yields =
+    Halts (CanHalt asked.listener.limit (asked.a ∷ asked.b ∷ []) files fault) (agree_report asked (files asked.a) (files asked.b)) came ended yields None

@@ -27,14 +27,13 @@ use Rattle.listen_command.proofs.Headline.{has_headline}
 use Rattle.agree_command.specs.Agree.{HasAgreement, compared_text}
 use Rattle.agree_command.proofs.AgreeRun.{has_agreement}
 use Rattle.gateway_command.specs.Gateway.{KeepsInput}
-use Rattle.gateway_command.proofs.GatewayRun.{gateway_here, keeps_input}
+use Rattle.gateway_command.proofs.GatewayRun.{keeps_input}
 use Rattle.avtp_tool.specs.HasRun.{ComparesTalker, Follows, ReadsAll, Reports, HasRun, RefusesWords}
 use Rattle.avtp_tool.specs.Run.{CanEndWith, is_listening, names_of, report_for}
-use Rattle.avtp_tool.specs.state.Run.{Outcome, task_of, Finishes}
+use Rattle.avtp_tool.specs.state.Run.{task_of, Finishes}
 use Rattle.run_report.specs.Halt.{Halt, no_halt}
-use Rattle.run_report.specs.RunReport.{RunReport}
-use Rattle.run_report.proofs.RunReports.{run_of}
-use Rattle.avtp_tool.proofs.Halts.{can_end, halts_of, never_ends_with}
+use Rattle.run_report.specs.RunReport.{RunReport, run_of}
+use Rattle.avtp_tool.proofs.Halts.{can_end, never_ends_with}
 use Rattle.avtp_tool.proofs.Ended.{quiet_not, asks_same, ended_as, not_ended, quiet_if, through_to, asks_nothing, ends_prefix, ends_whole, offence_ends}
 use Rattle.avtp_tool.proofs.Finished.{flushed, gains_prefix, rose_later}
 
@@ -53,19 +52,12 @@ headline_of request files fault failed halt can asked earlier later name bytes i
     subst (λ (q : Request). HasHeadline asked files fault earlier name bytes (report_for q files failed halt).yields) (sym is)
     (has_headline asked files fault failed halt earlier later name bytes (subst (λ (q : Request). CanEndWith q files fault halt) is can) (subst (λ (q : Request). (report_for q files failed halt).came ≡ earlier ++ name ∷ later) is reached) told)
 
-kept_of : (words : List (List ℕ)) (request : Request) (files : Files) (fault : Type 0) (failed : Bool) (came : List (List ℕ)) (reached : Status) (yields : Yield) (made : Option (List ℕ)) (asked : Turning) (capture : List ℕ)
-    → IsCommandLine words request → Outcome request files fault failed came reached yields made → request ≡ gateway asked → made ≡ Some capture → KeepsInput asked files fault reached capture
-kept_of words request files fault failed came reached yields made asked capture line outcome same some =
+kept_of : (words : List (List ℕ)) (request : Request) (files : Files) (fault : Type 0) (failed : Bool) (halt : Halt) (asked : Turning) (capture : List ℕ) → IsCommandLine words request → CanEndWith request files fault halt → request ≡ gateway asked
+    → (report_for request files failed halt).made ≡ Some capture → KeepsInput asked files fault (report_for request files failed halt).ended capture
+kept_of words request files fault failed halt asked capture line can same some =
     let says = subst (IsCommandLine words) same line in
-    let turns = subst (λ (q : Request). Outcome q files fault failed came reached yields made) same outcome in
-    keeps_input capture (gateway_id words asked says.0) turns.0 some
-
-kept_here : (words : List (List ℕ)) (request : Request) (files : Files) (fault : Type 0) (failed : Bool) (asked : Turning) (capture : List ℕ) → IsCommandLine words request → request ≡ gateway asked → (report_for request files failed no_halt).made ≡ Some capture
-    → KeepsInput asked files fault (report_for request files failed no_halt).ended capture
-kept_here words request files fault failed asked capture line same some =
-    let says = subst (IsCommandLine words) same line in
-    subst (λ (q : Request). KeepsInput asked files fault (report_for q files failed no_halt).ended capture) (sym same)
-    (keeps_input capture (gateway_id words asked says.0) (gateway_here asked files fault).0 (subst (λ (q : Request). (report_for q files failed no_halt).made ≡ Some capture) same some))
+    subst (λ (q : Request). KeepsInput asked files fault (report_for q files failed halt).ended capture) (sym same)
+    (keeps_input asked files fault halt capture (gateway_id words asked says.0) (subst (λ (q : Request). CanEndWith q files fault halt) same can) (subst (λ (q : Request). (report_for q files failed halt).made ≡ Some capture) same some))
 
 reports_of : (words : List (List ℕ)) {request : Request} {handed : List Shown → Type 0} {failed : Bool} {shelf shelf' : ShelfState} {out mid out' : SinkState} {w w1 w2 : List ℕ} {r : Result Status Failed} {ended : Status}
     → IsCommandLine words request → w ≡ [] → Runs (task_of request) handed failed shelf shelf' out mid w w1 r → Finishes mid out' w1 w2 r ended → Grows out.held out'.held
@@ -73,7 +65,7 @@ reports_of : (words : List (List ℕ)) {request : Request} {handed : List Shown 
 reports_of words {request} {handed} {failed} {shelf} {shelf'} {out} {mid} {out'} {w} {w1} {w2} {r} {ended} line none runs finishes grown files told some =
     let so = runs.tells files told some in
     let tells = so.tells in
-    let at = halts_of request files (Rose shelf.reading_faults shelf'.reading_faults) failed tells.came tells.ended tells.yields so.made tells.outcome in
+    let at = tells.outcome in
     let follows : Follows (run_of tells.came tells.ended tells.yields so.made) request handed shelf shelf' out out' ended = record {
       whole = λ memory write.
           let done = finishes.whole write in
@@ -95,9 +87,7 @@ reports_of words {request} {handed} {failed} {shelf} {shelf'} {out} {mid} {out'}
       did = subst (λ (report : RunReport). Follows report request handed shelf shelf' out out' ended) at.2 follows;
       headline = headline_of request files _ failed at.0 at.1;
       agreement = λ quiet asked x y shift p compares. agreement_of request files failed at.0 asked x y shift p (complete quiet) compares;
-      kept = λ asked capture same makes.
-          subst (λ (s : Status). KeepsInput asked files (Rose shelf.reading_faults shelf'.reading_faults) s capture) (ap (λ (report : RunReport). report.ended) at.2)
-          (kept_of words request files _ failed tells.came tells.ended tells.yields so.made asked capture line tells.outcome same (ap (λ (report : RunReport). report.made) at.2 ∙ makes));
+      kept = λ asked capture same makes. kept_of words request files _ failed at.0 asked capture line at.1 same makes;
     }
 
 -- ---- the command
@@ -157,7 +147,7 @@ no_memory words request handed still failed shelf out line nothing kept = record
     };
     headline = headline_of request files _ failed no_halt (can_end request files _);
     agreement = λ quiet asked x y shift p compares. agreement_of request files failed no_halt asked x y shift p refl compares;
-    kept = λ asked capture same makes. kept_here words request files _ failed asked capture line same makes;
+    kept = λ asked capture same makes. kept_of words request files _ failed no_halt asked capture line (can_end request files _) same makes;
   };
   grows = record { more = []; appends = Appends-nil out.held };
   files = files_still (output_of request) shelf.files;

@@ -28,13 +28,13 @@ use Rattle.am824_gateway.specs.declared.scan.ScanFault.TheVariants as fault
 use Rattle.am824_gateway.specs.declared.skip.Skip.TheVariants as skip
 use Rattle.capture_io.specs.declared.end.End.TheVariants as end
 use Rattle.run_report.specs.Listener.{plan_of}
-use Rattle.run_report.specs.Endings.{side_line, IsUnopened}
+use Rattle.run_report.specs.Endings.{side_line}
 use Rattle.run_report.specs.declared.status.Status.{Status}
 use Rattle.run_report.specs.Status.{status_of}
 use Rattle.run_report.specs.Runs.{Task}
 use Rattle.run_report.specs.Yield.{Yield, says}
-use Rattle.run_report.specs.RunReport.{RunReport, ends_unread}
-use Rattle.run_report.specs.Halt.{Halt, no_halt, not_opened, stopped_after}
+use Rattle.run_report.specs.RunReport.{Halts, RunReport, ends_unread}
+use Rattle.run_report.specs.Halt.{CanHalt, Halt, no_halt, not_opened, stopped_after}
 use Rattle.run_report.specs.Lines.{of_each}
 use Rattle.run_report.specs.declared.status.Status.TheVariants as status
 use Rattle.capture_hearing.specs.Shown.{shown_by}
@@ -222,30 +222,10 @@ pub record IsTurning (asked : Turning) : Type 0 where
   pub plan : IsPlan (schedule_plan (plan_of asked.listener))
   pub apart : asked.input ≢ asked.output
 
--- ---- the contract of `gateway`
-
--- The possible outcomes of a run of `gateway` over these files: the names that the run asks for, its status, its text,
--- and the capture that the run makes, if any. A read fault is possible only if `fault` holds.
-pub data GatewayOutcome (asked : Turning) (files : Files) (fault : Type 0) (came : List (List ℕ)) (ended : Status) (text : List ℕ) (made : Option (List ℕ)) : Type 0 where
-  -- IN was not opened.
-  unopened : IsUnopened files fault asked.input → came ≡ asked.input ∷ [] → ended ≡ status.ReadFault → text ≡ read_fault_line → made ≡ None
-      → GatewayOutcome asked files fault came ended text made
-  -- A record of IN cannot be converted.
-  faulty : (bytes : List ℕ) (at : FaultAt) → files asked.input ≡ Some bytes → fault_in asked (records_of asked bytes) ≡ Some at
-      → came ≡ asked.input ∷ [] → ended ≡ status.TalkInput → text ≡ fault_line at → made ≡ None → GatewayOutcome asked files fault came ended text made
-  -- The scan ended before the end of IN, and each record that was read can be converted.
-  cut : (bytes prefix : List ℕ) (how : End) → files asked.input ≡ Some bytes → EndsAt asked.listener.limit (Some bytes) fault how prefix → how ≢ end.Whole
-      → fault_in asked (records_in prefix) ≡ None → came ≡ asked.input ∷ [] → ended ≡ status_of how → text ≡ side_line asked.listener.limit how → made ≡ None
-      → GatewayOutcome asked files fault came ended text made
-  -- IN was scanned, OUT was made, and IN was read again.
-  turned : (shape : Option Shape) (batches : List Presented) (how : End) → HearsInput asked files fault shape batches how → came ≡ asked.input ∷ asked.output ∷ asked.input ∷ []
-      → ended ≡ turned_status (length (skips_in asked shape batches)) how → text ≡ turned_text asked shape batches how → made ≡ Some (turned_capture asked shape batches)
-      → GatewayOutcome asked files fault came ended text made
-
--- what a run of `gateway` over these files can result in: the names that the run asks for, the status, the yield, and
--- the capture that the run makes, if any
+-- what a run of `gateway` over these files did, under one of the read faults that are possible
 abbrev pub GatewayYields : Turning → Files → Type 0 → List (List ℕ) → Status → Yield → Option (List ℕ) → Type 0
-GatewayYields asked files fault came ended yields made = GatewayOutcome asked files fault came ended yields.text made × (yields.items ≡ [])
+GatewayYields asked files fault came ended yields made =
+    Halts (CanHalt asked.listener.limit (asked.input ∷ asked.input ∷ []) files fault) (gateway_report asked (files asked.input)) came ended yields made
 
 -- what the words ask `gateway` to do
 abbrev pub gateway_task : Turning → Task

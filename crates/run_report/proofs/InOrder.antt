@@ -7,13 +7,12 @@ use Rattle.avtp_base.specs.States.{Asks, ShelfState}
 use Rattle.sample_schedule.specs.declared.shown.Shown.{Shown}
 use Rattle.avtp_base.specs.Files.{Files}
 use Rattle.run_report.specs.declared.status.Status.{Status}
-use Rattle.run_report.specs.Reading.{joined, InOrder, in_order_read, in_order_status, in_order_yield, one_outcome, one_status, one_yield, PlanOutcome, plan_report, ReadPlan, file_status, Report}
+use Rattle.run_report.specs.Reading.{FileOutcome, joined, in_order_read, in_order_status, in_order_yield, one_status, one_yield, PlanOutcome, plan_report, ReadPlan, file_status, Report}
 use Rattle.run_report.specs.Outcome.{is_done, IsDone, TellsRun, TellsYield}
 use Rattle.run_report.specs.Yield.{says, Yield, with_more, Gives}
 use Rattle.run_report.proofs.Yields.{more_more, more_none, gives_then, Joins, part_before, part_then}
-use Rattle.run_report.proofs.RunReports.{run_of, same_run}
-use Rattle.run_report.proofs.OneFile.{file_here, file_halts, FileHalts}
-use Rattle.run_report.proofs.OneFile.FileHalts.{through, refused, halted}
+use Rattle.run_report.proofs.RunReports.{same_run}
+use Rattle.run_report.specs.Reading.FileOutcome.{through, refused, halted}
 use Rattle.run_report.specs.Halt.{Halt, CanHalt, past_first, no_halt, not_opened, stopped_after}
 use Rattle.capture_io.specs.declared.end.End.TheVariants as end
 use Rattle.capture_io.specs.Formats.{records_in}
@@ -56,6 +55,20 @@ joined_stop : (first rest : Status) → is_done rest ≡ false → joined first 
 joined_stop first rest stops = elim (last_of rest) [ inl is ↦ absurd (let t : true ≡ false = sym (ap is_done is) ∙ stops in cc) | inr last ↦ last first ]
 
 -- ---- files
+
+-- Files are read in order. The first file that does not end with `Done` or `Findings` ends the run. `One name` gives
+-- the possible outcomes of the file `name`. The list `read` has the names of the files that the run reached.
+unfoldable pub InOrder : (List ℕ → Status → Yield → Type 0) → List (List ℕ) → List (List ℕ) → Status → Yield → Type 0
+InOrder One [] read ended yields = (read ≡ []) × (ended ≡ status.Done) × (yields ≡ says [])
+InOrder One (name ∷ names) read ended yields =
+    ((is_done ended ≡ false) × (read ≡ name ∷ []) × One name ended yields)
+    ⊎ ((others : List (List ℕ)) × (first : Status) × (rest : Status) × (here : Yield) × (more : Yield)
+    × (is_done first ≡ true) × One name first here × InOrder One names others rest more
+    × (read ≡ name ∷ others) × (ended ≡ joined first rest) × (yields ≡ with_more here more))
+
+-- the possible outcomes of the file with this name, given the files of a shelf
+abbrev pub one_outcome : ReadPlan → Files → Type 0 → List ℕ → Status → Yield → Type 0
+one_outcome plan files fault name ended yields = FileOutcome (plan.report name) plan.limit (files name) fault ended yields
 
 pub none_read : (one : List ℕ → Status → Yield → Type 0) → InOrder one [] [] status.Done (says [])
 unfolding InOrder
@@ -256,14 +269,14 @@ module _ (plan : ReadPlan) (files : Files) (fault : Type 0) (stops_all : StopsAl
         yields_is = rw (on, past) (whole ∙ ap (λ (y : Yield). with_more y more) is_here ∙ ap (with_more (one_yield plan files halt name)) next.yields_is);
       }
 
-  order_first : (name : List ℕ) (names read : List (List ℕ)) (ended : Status) (yields : Yield) → is_done ended ≡ false → read ≡ name ∷ [] → FileHalts (plan.report name) plan.limit (files name) fault ended yields
+  order_first : (name : List ℕ) (names read : List (List ℕ)) (ended : Status) (yields : Yield) → is_done ended ≡ false → read ≡ name ∷ [] → FileOutcome (plan.report name) plan.limit (files name) fault ended yields
       → OrderHalts plan files fault (name ∷ names) read ended yields
   order_first name names read ended yields undone came (through is all) = order_ends name names read ended yields no_halt tt undone came is all
   order_first name names read ended yields undone came (refused cause is all) = order_ends name names read ended yields (not_opened zero) cause undone came is all
   order_first name names read ended yields undone came (halted after cause can is all) = order_ends name names read ended yields (stopped_after zero after) (cause, can) undone came is all
 
   order_on : (name : List ℕ) (names read others : List (List ℕ)) (ended first rest : Status) (yields here more : Yield) → OrderHalts plan files fault names others rest more → is_done first ≡ true
-      → read ≡ name ∷ others → ended ≡ joined first rest → yields ≡ with_more here more → FileHalts (plan.report name) plan.limit (files name) fault first here → OrderHalts plan files fault (name ∷ names) read ended yields
+      → read ≡ name ∷ others → ended ≡ joined first rest → yields ≡ with_more here more → FileOutcome (plan.report name) plan.limit (files name) fault first here → OrderHalts plan files fault (name ∷ names) read ended yields
   order_on name names read others ended first rest yields here more next goes came joins whole (through is all) = order_goes name names read others ended first rest yields here more next goes is all came joins whole
   order_on name names read others ended first rest yields here more next goes came joins whole (refused cause is all) =
       absurd (let t : false ≡ true = sym (refused_stops plan.limit (plan.report name) (files name)) ∙ ap is_done (sym is) ∙ goes in cc)
@@ -273,9 +286,9 @@ module _ (plan : ReadPlan) (files : Files) (fault : Type 0) (stops_all : StopsAl
   pub order_halts : (names read : List (List ℕ)) (ended : Status) (yields : Yield) → InOrder (one_outcome plan files fault) names read ended yields → OrderHalts plan files fault names read ended yields
   unfolding InOrder in_order_read in_order_status in_order_yield
   order_halts [] read ended yields (none, is, all) = record { halt = no_halt; can = tt; read_is = none; ended_is = is; yields_is = all }
-  order_halts (name ∷ names) read ended yields (inl (stops, came, outcome)) = order_first name names read ended yields stops came (file_halts (plan.report name) plan.limit (files name) fault ended yields outcome)
+  order_halts (name ∷ names) read ended yields (inl (stops, came, outcome)) = order_first name names read ended yields stops came outcome
   order_halts (name ∷ names) read ended yields (inr (others, first, rest, here, more, goes, outcome, order, came, is, all)) =
-      order_on name names read others ended first rest yields here more (order_halts names others rest more order) goes came is all (file_halts (plan.report name) plan.limit (files name) fault first here outcome)
+      order_on name names read others ended first rest yields here more (order_halts names others rest more order) goes came is all outcome
 
 -- without a read fault, no read fault ended the run
 pub never_halts : (limit : ℕ) (names : List (List ℕ)) (files : Files) (fault : Type 0) (halt : Halt) → (fault → ⊥) → CanHalt limit names files fault halt → halt ≡ no_halt
@@ -287,12 +300,15 @@ never_halts limit (name ∷ names) files fault (stopped_after zero after) none c
 never_halts limit (name ∷ names) files fault (not_opened (suc place)) none can = absurd (let e = never_halts limit names files fault (not_opened place) none can in cc)
 never_halts limit (name ∷ names) files fault (stopped_after (suc place) after) none can = absurd (let e = never_halts limit names files fault (stopped_after place after) none can in cc)
 
--- the outcome of a command with this plan is what the command does under one of the read faults that fit
-pub plan_halts : (plan : ReadPlan) (files : Files) (fault : Type 0) (came : List (List ℕ)) (ended : Status) (yields : Yield) → StopsAll plan → PlanOutcome plan files fault came ended yields
-    → (halt : Halt) × CanHalt plan.limit plan.names files fault halt × (run_of came ended yields None ≡ plan_report plan files halt)
+-- what a command with this plan did, if it gave out all that one of the possible outcomes of its files yields
+plan_halts : (plan : ReadPlan) (files : Files) (fault : Type 0) (came : List (List ℕ)) (ended : Status) (yields : Yield) → StopsAll plan → InOrder (one_outcome plan files fault) plan.names came ended yields → PlanOutcome plan files fault came ended yields
 plan_halts plan files fault came ended yields stops outcome =
     let at = order_halts plan files fault stops plan.names came ended yields outcome in
     (at.halt, at.can, same_run came _ ended _ yields _ None None at.read_is at.ended_is at.yields_is refl)
+
+pub tells_plan : {handed : List Shown → Type 0} {a b : ShelfState} {before now : Option (List ℕ)} {result : Result Status Failed} (plan : ReadPlan) (files : Files) (fault : Type 0) → StopsAll plan
+    → TellsRun (InOrder (one_outcome plan files fault) plan.names) handed a b before now result → TellsRun (PlanOutcome plan files fault) handed a b before now result
+tells_plan plan files fault stops to = record { came = to.came; ended = to.ended; yields = to.yields; outcome = plan_halts plan files fault to.came to.ended to.yields stops to.outcome; whole = to.whole; part = to.part }
 
 -- ---- a file among the files that a run reached
 

@@ -10,6 +10,7 @@ use Rattle.pcap_frames.specs.Capture.{Record}
 use Rattle.capture_io.specs.Source.{EndsAfter}
 use Rattle.capture_io.specs.Formats.{records_in, certain_in}
 use Rattle.capture_io.specs.declared.end.End.TheVariants as end
+use Rattle.run_report.specs.Reading.FileOutcome.{through, refused, halted}
 use Rattle.run_report.specs.Reading.{FileOutcome, file_status, file_yield, Report}
 use Rattle.run_report.specs.Yield.{says, Yield}
 use Rattle.run_report.specs.Halt.{CanStop, no_halt, not_opened, stopped_after}
@@ -26,34 +27,19 @@ by_end limit bytes prefix fault end.Limit none ends = ends
 
 -- the outcome of a file if no read fault occurs
 pub file_here : (report : Report) (limit : ℕ) (told : Option (List ℕ)) (fault : Type 0) → FileOutcome report limit told fault (file_status report limit told no_halt) (file_yield report limit told no_halt)
-file_here report limit None fault = (refl, refl)
-file_here report limit (Some bytes) fault = inl (record { how = end_of limit bytes; prefix = take limit bytes; ends = ends_here limit bytes fault; status = refl; given = refl })
+file_here report limit told fault = through refl refl
 
 -- the outcome of a file that could not be opened
 pub file_fault : (report : Report) (limit : ℕ) (told : Option (List ℕ)) (fault : Type 0) → fault ⊎ (told ≡ None) → FileOutcome report limit told fault status.ReadFault (says read_fault_line)
-file_fault report limit None fault cause = (refl, refl)
-file_fault report limit (Some bytes) fault (inl cause) = inr (cause, refl, refl)
+file_fault report limit None fault cause = through refl refl
+file_fault report limit (Some bytes) fault (inl cause) = refused cause refl refl
 file_fault report limit (Some bytes) fault (inr none) = absurd cc
-
--- the outcome of a file that was opened and read
-pub file_read : (report : Report) (limit : ℕ) (bytes : List ℕ) (told : Option (List ℕ)) (fault other : Type 0) (how : End) (records : List Record) → (fault → other) → told ≡ Some bytes → EndsAfter limit bytes fault how records
-    → (ended : Status) (yields : Yield) → Only (report.status records how) (report.yields records how) ended yields → FileOutcome report limit told other ended yields
-file_read report limit bytes told fault other how records weaker is after ended yields (same, all) =
-    subst (λ (t : Option (List ℕ)). FileOutcome report limit t other ended yields) (sym is)
-    (inl (record {
-      how = how;
-      prefix = after.prefix;
-      ends = ends_weaker limit (Some bytes) fault other how after.prefix weaker after.ends;
-      status = subst (λ (rs : List Record). ended ≡ report.status rs how) (sym after.whole) same;
-      given = subst (λ (rs : List Record). yields ≡ report.yields rs how) (sym after.whole) all;
-    }))
 
 -- each outcome stays possible if the condition for a read fault is weakened
 pub file_weaker : (report : Report) (limit : ℕ) (told : Option (List ℕ)) (fault other : Type 0) (ended : Status) (yields : Yield) → (fault → other) → FileOutcome report limit told fault ended yields → FileOutcome report limit told other ended yields
-file_weaker report limit None fault other ended yields weaker outcome = outcome
-file_weaker report limit (Some bytes) fault other ended yields weaker (inl read) =
-    inl (record { how = read.how; prefix = read.prefix; ends = ends_weaker limit (Some bytes) fault other read.how read.prefix weaker read.ends; status = read.status; given = read.given })
-file_weaker report limit (Some bytes) fault other ended yields weaker (inr (cause, is, all)) = inr (weaker cause, is, all)
+file_weaker report limit told fault other ended yields weaker (through is all) = through is all
+file_weaker report limit told fault other ended yields weaker (refused cause is all) = refused (weaker cause) is all
+file_weaker report limit told fault other ended yields weaker (halted after cause can is all) = halted after (weaker cause) can is all
 
 -- ---- the read fault
 
@@ -76,14 +62,8 @@ pub stops_here : (limit : ℕ) (bytes : List ℕ) (after : ℕ) (fault : Type 0)
 stops_here limit bytes after fault cause (within, fits, certain) =
     (cause, (drop after bytes, sym (take-append-drop after bytes), omega (arith, within, fits, length-take-le after bytes), certain))
 
--- A file's outcome, as the status and the yield of the file under one of the read faults that fit.
-pub data FileHalts (report : Report) (limit : ℕ) (told : Option (List ℕ)) (fault : Type 0) (ended : Status) (yields : Yield) : Type 0 where
-  through : ended ≡ file_status report limit told no_halt → yields ≡ file_yield report limit told no_halt → FileHalts report limit told fault ended yields
-  refused : fault → ended ≡ file_status report limit told (not_opened zero) → yields ≡ file_yield report limit told (not_opened zero) → FileHalts report limit told fault ended yields
-  halted : (after : ℕ) → fault → CanStop limit told after → ended ≡ file_status report limit told (stopped_after zero after) → yields ≡ file_yield report limit told (stopped_after zero after) → FileHalts report limit told fault ended yields
-
 read_halts : (report : Report) (limit : ℕ) (bytes prefix : List ℕ) (fault : Type 0) (how : End) (ended : Status) (yields : Yield) → EndsAt limit (Some bytes) fault how prefix
-    → ended ≡ report.status (records_in prefix) how → yields ≡ report.yields (records_in prefix) how → FileHalts report limit (Some bytes) fault ended yields
+    → ended ≡ report.status (records_in prefix) how → yields ≡ report.yields (records_in prefix) how → FileOutcome report limit (Some bytes) fault ended yields
 read_halts report limit bytes prefix fault end.ReadFault ended yields ends is all =
     let at = stopped_at limit bytes prefix fault ends in
     halted (length prefix) at.1 at.2 (is ∙ ap (λ (p : List ℕ). report.status (records_in p) end.ReadFault) at.0) (all ∙ ap (λ (p : List ℕ). report.yields (records_in p) end.ReadFault) at.0)
@@ -91,7 +71,10 @@ read_halts report limit bytes prefix fault end.Whole ended yields ends is all = 
 read_halts report limit bytes prefix fault (end.Refused refusal) ended yields ends is all = through (is ∙ rw (ends.0, ends.1) refl) (all ∙ rw (ends.0, ends.1) refl)
 read_halts report limit bytes prefix fault end.Limit ended yields ends is all = through (is ∙ rw (ends.0, ends.1) refl) (all ∙ rw (ends.0, ends.1) refl)
 
-pub file_halts : (report : Report) (limit : ℕ) (told : Option (List ℕ)) (fault : Type 0) (ended : Status) (yields : Yield) → FileOutcome report limit told fault ended yields → FileHalts report limit told fault ended yields
-file_halts report limit None fault ended yields (is, all) = through is all
-file_halts report limit (Some bytes) fault ended yields (inl read) = read_halts report limit bytes read.prefix fault read.how ended yields read.ends read.status read.given
-file_halts report limit (Some bytes) fault ended yields (inr (cause, is, all)) = refused cause is all
+-- the outcome of a file that was opened and read
+pub file_read : (report : Report) (limit : ℕ) (bytes : List ℕ) (told : Option (List ℕ)) (fault other : Type 0) (how : End) (records : List Record) → (fault → other) → told ≡ Some bytes → EndsAfter limit bytes fault how records
+    → (ended : Status) (yields : Yield) → Only (report.status records how) (report.yields records how) ended yields → FileOutcome report limit told other ended yields
+file_read report limit bytes told fault other how records weaker is after ended yields (same, all) =
+    subst (λ (t : Option (List ℕ)). FileOutcome report limit t other ended yields) (sym is)
+    (read_halts report limit bytes after.prefix other how ended yields (ends_weaker limit (Some bytes) fault other how after.prefix weaker after.ends)
+    (subst (λ (rs : List Record). ended ≡ report.status rs how) (sym after.whole) same) (subst (λ (rs : List Record). yields ≡ report.yields rs how) (sym after.whole) all))

@@ -1,12 +1,8 @@
 -- Equal reports of a run.
 use Rattle.std.proofs.Common.{◌≡◌, ℕ, List, [], Option, refl}
 use Rattle.run_report.specs.declared.status.Status.{Status}
-use Rattle.run_report.specs.RunReport.{RunReport}
+use Rattle.run_report.specs.RunReport.{run_of}
 use Rattle.run_report.specs.Yield.{Yield, says}
-
--- a run that asks for these names, ends with this status, yields this and makes this capture, if any
-abbrev pub run_of : List (List ℕ) → Status → Yield → Option (List ℕ) → RunReport
-run_of came ended yields made = record { came = came; ended = ended; yields = yields; made = made }
 
 pub same_run : (came came' : List (List ℕ)) (ended ended' : Status) (yields yields' : Yield) (made made' : Option (List ℕ)) → came ≡ came' → ended ≡ ended' → yields ≡ yields' → made ≡ made'
     → run_of came ended yields made ≡ run_of came' ended' yields' made'

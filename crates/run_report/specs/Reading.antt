@@ -3,7 +3,7 @@ use Rattle.std.specs.Prelude.{zero, List, ◌≡◌, ℕ, Some, ◌⊎◌, Optio
 use Rattle.pcap_frames.specs.Capture.{Record}
 use Rattle.capture_io.specs.declared.end.End.{End}
 use Rattle.capture_io.specs.Formats.{records_in}
-use Rattle.capture_io.specs.Ends.{EndsAt, end_of, CountsFault}
+use Rattle.capture_io.specs.Ends.{end_of, CountsFault}
 use Rattle.avtp_text.specs.Notices.{read_fault_line}
 use Rattle.avtp_base.specs.Files.{Files, Slots}
 use Rattle.capture_io.specs.Source.{Sourcing, slot_of, to_do, GivesNext, HasGivenOf}
@@ -15,8 +15,8 @@ use Rattle.avtp_base.specs.Told.{Keeps}
 use Rattle.avtp_base.specs.Faults.{Rose}
 use Rattle.sample_schedule.specs.declared.shown.Shown.{Shown}
 use Rattle.run_report.specs.declared.status.Status.{Status}
-use Rattle.run_report.specs.RunReport.{RunReport}
-use Rattle.run_report.specs.Halt.{Halt, past_first, not_opened, stopped_after}
+use Rattle.run_report.specs.RunReport.{Halts, RunReport}
+use Rattle.run_report.specs.Halt.{CanHalt, CanStop, Halt, no_halt, past_first, not_opened, stopped_after}
 use Rattle.run_report.specs.Yield.{Yield, says, with_more}
 use Rattle.run_report.specs.Outcome.{is_done, KeepsSink, CountsReading, TellsYield, IsDone, TellsRun}
 use Rattle.capture_io.specs.declared.end.End.TheVariants as end
@@ -29,22 +29,6 @@ use Rattle.run_report.specs.declared.status.Status.TheVariants as status
 pub record Report : Type 0 where
   pub status : List Record → End → Status
   pub yields : List Record → End → Yield
-
--- A possible outcome of reading an open file that has these bytes. At most `limit` of the bytes are read.
-pub record ReadOutcome (report : Report) (limit : ℕ) (bytes : List ℕ) (fault : Type 0) (ended : Status) (yields : Yield) : Type 0 where
-  pub how : End
-  pub prefix : List ℕ
-  pub ends : EndsAt limit (Some bytes) fault how prefix
-  pub status : ended ≡ report.status (records_in prefix) how
-  pub given : yields ≡ report.yields (records_in prefix) how
-
--- The possible outcomes of reading a file: the status, and what the command yields. The file is given by its bytes, or
--- by `None` if it is missing. Reading a missing file ends with a read fault. A read fault of a file that exists is
--- possible only if `fault` holds.
-abbrev pub FileOutcome : Report → ℕ → Option (List ℕ) → Type 0 → Status → Yield → Type 0
-FileOutcome report limit None fault ended yields = (ended ≡ status.ReadFault) × (yields ≡ says read_fault_line)
-FileOutcome report limit (Some bytes) fault ended yields =
-    ReadOutcome report limit bytes fault ended yields ⊎ (fault × (ended ≡ status.ReadFault) × (yields ≡ says read_fault_line))
 
 -- The status with which a file ends. The option holds the file's bytes, or is `None` if the file is missing. `halt` is
 -- the run's read fault, with places counted from this file on.
@@ -62,6 +46,14 @@ file_yield report limit (Some bytes) (not_opened zero) = says read_fault_line
 file_yield report limit (Some bytes) (stopped_after zero after) = report.yields (records_in (take after bytes)) end.ReadFault
 file_yield report limit (Some bytes) halt = report.yields (records_in (take limit bytes)) (end_of limit bytes)
 
+-- A file's outcome: its status and what it yields, for a read fault that is possible in this file, or for none.
+pub data FileOutcome (report : Report) (limit : ℕ) (told : Option (List ℕ)) (fault : Type 0) (ended : Status) (yields : Yield) : Type 0 where
+  through : ended ≡ file_status report limit told no_halt → yields ≡ file_yield report limit told no_halt → FileOutcome report limit told fault ended yields
+  refused : fault → ended ≡ file_status report limit told (not_opened zero) → yields ≡ file_yield report limit told (not_opened zero)
+      → FileOutcome report limit told fault ended yields
+  halted : (after : ℕ) → fault → CanStop limit told after → ended ≡ file_status report limit told (stopped_after zero after)
+      → yields ≡ file_yield report limit told (stopped_after zero after) → FileOutcome report limit told fault ended yields
+
 -- ---- files in order
 
 -- The status of a run whose first file is done. If the other files end with `Done`, the run has the status of the first
@@ -69,16 +61,6 @@ file_yield report limit (Some bytes) halt = report.yields (records_in (take limi
 abbrev pub joined : Status → Status → Status
 joined first status.Done = first
 joined first rest = rest
-
--- Files are read in order. The first file that does not end with `Done` or `Findings` ends the run. `One name` gives
--- the possible outcomes of the file `name`. The list `read` has the names of the files that the run reached.
-unfoldable pub InOrder : (List ℕ → Status → Yield → Type 0) → List (List ℕ) → List (List ℕ) → Status → Yield → Type 0
-InOrder One [] read ended yields = (read ≡ []) × (ended ≡ status.Done) × (yields ≡ says [])
-InOrder One (name ∷ names) read ended yields =
-    ((is_done ended ≡ false) × (read ≡ name ∷ []) × One name ended yields)
-    ⊎ ((others : List (List ℕ)) × (first : Status) × (rest : Status) × (here : Yield) × (more : Yield)
-    × (is_done first ≡ true) × One name first here × InOrder One names others rest more
-    × (read ≡ name ∷ others) × (ended ≡ joined first rest) × (yields ≡ with_more here more))
 
 -- The files that a run reaches: all files up to and including the first file that does not end with `Done` or
 -- `Findings`. `one` gives the status of each file, given the run's read fault with places counted from this file on.
@@ -107,14 +89,6 @@ pub record ReadPlan : Type 0 where
   pub limit : ℕ
   pub report : List ℕ → Report
 
--- the possible outcomes of the file with this name, given the files of a shelf
-abbrev pub one_outcome : ReadPlan → Files → Type 0 → List ℕ → Status → Yield → Type 0
-one_outcome plan files fault name ended yields = FileOutcome (plan.report name) plan.limit (files name) fault ended yields
-
--- the possible outcomes of a command with this plan: the files that it reaches, its status, and what it yields
-abbrev pub PlanOutcome : ReadPlan → Files → Type 0 → List (List ℕ) → Status → Yield → Type 0
-PlanOutcome plan files fault read ended yields = InOrder (one_outcome plan files fault) plan.names read ended yields
-
 -- the status with which the file of this name ends
 abbrev pub one_status : ReadPlan → Files → Halt → List ℕ → Status
 one_status plan files halt name = file_status (plan.report name) plan.limit (files name) halt
@@ -131,6 +105,10 @@ plan_report plan files halt = record {
   yields = in_order_yield (one_status plan files) (one_yield plan files) halt plan.names;
   made = None;
 }
+
+-- what a command with this plan did, under one of the read faults that are possible
+abbrev pub PlanOutcome : ReadPlan → Files → Type 0 → List (List ℕ) → Status → Yield → Type 0
+PlanOutcome plan files fault came ended yields = Halts (CanHalt plan.limit plan.names files fault) (plan_report plan files) came ended yields None
 
 -- ---- an open capture
 

@@ -11,9 +11,11 @@ use Rattle.avtp_text.specs.Notices.{limit_line, read_fault_line}
 use Rattle.run_report.specs.declared.status.Status.{Status}
 use Rattle.run_report.specs.Halt.{Halt, no_halt, not_opened}
 use Rattle.run_report.specs.Yield.{Yield, says}
-use Rattle.run_report.proofs.RunReports.{run_of, said}
+use Rattle.run_report.proofs.RunReports.{said}
 use Rattle.run_report.specs.declared.status.Status.TheVariants as status
-use Rattle.talk_command.specs.Talk.{CanTalkHalt, sent_line, talk_came, talk_made, talk_plan, talk_report, TalkedOutcome, TalkOutcome}
+use Rattle.run_report.specs.RunReport.{Halts}
+use Rattle.talk_command.specs.Talk.{CanTalkHalt, sent_line, talk_plan, talk_report}
+use Rattle.talk_command.specs.state.Talk.{talk_came, talk_made, TalkedOutcome, TalkOutcome}
 
 -- ---- an input
 
@@ -35,11 +37,9 @@ talk_here plan (Some bytes) cause = talked_here plan bytes cause
 
 -- ---- the read fault of a run
 
--- what a run did is what `talk` does under one of the read faults that fit
+-- what a run of `talk` with this outcome did, under one of the read faults that are possible
 abbrev pub TalkHalts : Talking → Option (List ℕ) → Type 0 → Status → Yield → Type 0
-TalkHalts asked told cause ended yields =
-    (halt : Halt) × CanTalkHalt cause halt
-    × (run_of (talk_came asked ended) ended yields (talk_made (talk_plan asked) told ended) ≡ talk_report asked told halt)
+TalkHalts asked told cause ended yields = Halts (CanTalkHalt cause) (talk_report asked told) (talk_came asked ended) ended yields (talk_made (talk_plan asked) told ended)
 
 talked_halts : (asked : Talking) (bytes : List ℕ) (cause : Type 0) (ended : Status) (yields : Yield) → yields.items ≡ [] → TalkedOutcome (talk_plan asked) bytes cause ended yields.text → TalkHalts asked (Some bytes) cause ended yields
 talked_halts asked bytes cause status.Done yields none (fits, good, is) = (no_halt, tt, rw (said yields _ none is, le-leb (length bytes) most_input fits, good) refl)

@@ -30,9 +30,9 @@ use Rattle.run_report.proofs.Making.{kept_but, slots_but, asks_from, files_from,
 use Rattle.run_report.proofs.Runs.{no_devices, through_as}
 use Rattle.run_report.proofs.Outcomes.{counts_unopened, tells_unopened, tells_weaker, text_telling, unopened_other, unopened_undone}
 use Rattle.run_report.specs.declared.status.Status.TheVariants as status
-use Rattle.talk_command.specs.Talk.{talk_task, talk_came, talk_made, TalkOutcome, talk_plan, TalkedOutcome}
-use Rattle.talk_command.specs.state.Talk.{Makes, OutcomeWith, FaultStops, WritesOnly}
-use Rattle.talk_command.proofs.TalkOutcomes.{talk_here}
+use Rattle.talk_command.specs.Talk.{talk_task, talk_plan}
+use Rattle.talk_command.specs.state.Talk.{talk_came, talk_made, TalkOutcome, TalkedOutcome, Makes, OutcomeWith, FaultStops, WritesOnly}
+use Rattle.talk_command.proofs.TalkOutcomes.{talk_halts, talk_here}
 use Rattle.talk_command.proofs.Talked.{makes_after, makes_none, read_counted, talks_unopened, tells_caused, tells_since}
 
 -- ---- the names that were asked for
@@ -69,7 +69,7 @@ talk_tells {all} {a} {b} {before} {now} {result} asked fault came tells makes = 
     came = talk_came asked tells.ended;
     ended = tells.ended;
     yields = says tells.yields;
-    outcome = (refl, tells.outcome.0, refl, refl);
+    outcome = talk_halts asked told fault tells.ended (says tells.yields) refl tells.outcome.0;
     whole = whole_at result came tells.whole;
     part = part_text refl (says tells.yields) tells.part;
   };

@@ -28,9 +28,8 @@ use Rattle.run_report.specs.Endings.{unmade_as}
 use Rattle.run_report.specs.Made.{KeepsFilesBut, CountsWriting}
 use Rattle.run_report.proofs.Outcomes.{IsCut, undone_by, tells_cut, tells_line, ends_not, ok_same, undone_as, tells_weaker, missing_none, Unopened}
 use Rattle.run_report.specs.declared.status.Status.TheVariants as status
-use Rattle.talk_command.specs.state.Talk.{MakesFile, Makes, WritesOnly, EndsRefused, OutcomeWith, FaultStops}
+use Rattle.talk_command.specs.state.Talk.{TalkedOutcome, TalkOutcome, MakesFile, Makes, WritesOnly, EndsRefused, OutcomeWith, FaultStops}
 use Rattle.avtp_text.specs.Talk.{talk_input_line}
-use Rattle.talk_command.specs.Talk.{TalkedOutcome, TalkOutcome}
 use Rattle.talk_command.proofs.TalkOutcomes.{talked_here}
 
 -- ---- names

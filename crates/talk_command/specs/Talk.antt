@@ -18,7 +18,7 @@ use Rattle.avtp_base.specs.Files.{Files}
 use Rattle.run_report.specs.declared.status.Status.{Status}
 use Rattle.run_report.specs.Runs.{Task}
 use Rattle.run_report.specs.Yield.{Yield, says}
-use Rattle.run_report.specs.RunReport.{RunReport, ends_unread}
+use Rattle.run_report.specs.RunReport.{Halts, RunReport, ends_unread}
 use Rattle.run_report.specs.Halt.{Halt, no_halt}
 use Rattle.run_report.specs.Outcome.{is_done}
 use Rattle.run_report.specs.declared.status.Status.TheVariants as status
@@ -77,39 +77,9 @@ abbrev pub CanTalkHalt : Type 0 → Halt → Type 0
 CanTalkHalt fault no_halt = ⊤
 CanTalkHalt fault halt = fault
 
--- ---- the contract of `talk`
-
--- the capture that a run of `talk` makes, given its input and its status; `None` if it makes none
-abbrev pub talk_made : TalkPlan → Option (List ℕ) → Status → Option (List ℕ)
-talk_made plan (Some bytes) status.Done = Some (capture plan bytes)
-talk_made plan told ended = None
-
--- the names that a run of `talk` with this status asks for: its input, and its output only if the output was made
-abbrev pub talk_came : Talking → Status → List (List ℕ)
-talk_came asked ended = asked.input ∷ (if is_done ended then asked.output ∷ [] else [])
-
--- The possible outcomes of `talk` for an input of these bytes: its status, and the text that it prints. A read fault is
--- possible only if `fault` holds.
-abbrev pub TalkedOutcome : TalkPlan → List ℕ → Type 0 → Status → List ℕ → Type 0
-TalkedOutcome plan bytes fault status.Done text = (length bytes ≤ most_input) × (fault_of plan bytes ≡ None) × (text ≡ sent_line plan bytes)
-TalkedOutcome plan bytes fault status.TalkInput text =
-    (length bytes ≤ most_input) × ((why : TalkFault) × (fault_of plan bytes ≡ Some why) × (text ≡ talk_input_line why))
-TalkedOutcome plan bytes fault status.Limit text = (most_input < length bytes) × (text ≡ limit_line most_input)
-TalkedOutcome plan bytes fault status.ReadFault text = fault × (text ≡ read_fault_line)
-TalkedOutcome plan bytes fault ended text = ⊥
-
--- The possible outcomes of `talk`. The option holds the bytes of the input, or is `None` if the input is missing. A
--- missing input results in a read fault.
-abbrev pub TalkOutcome : TalkPlan → Option (List ℕ) → Type 0 → Status → List ℕ → Type 0
-TalkOutcome plan None fault ended text = (ended ≡ status.ReadFault) × (text ≡ read_fault_line)
-TalkOutcome plan (Some bytes) fault ended text = TalkedOutcome plan bytes fault ended text
-
--- What a run of `talk` over these files can result in: the names that the run asks for, the status, the yield, and the
--- capture that the run makes, if any.
+-- what a run of `talk` over these files did, under one of the read faults that are possible
 abbrev pub TalkYields : Talking → Files → Type 0 → List (List ℕ) → Status → Yield → Option (List ℕ) → Type 0
-TalkYields asked files fault came ended yields made =
-    (came ≡ talk_came asked ended) × TalkOutcome (talk_plan asked) (files asked.input) fault ended yields.text × (yields.items ≡ [])
-    × (made ≡ talk_made (talk_plan asked) (files asked.input) ended)
+TalkYields asked files fault came ended yields made = Halts (CanTalkHalt fault) (talk_report asked (files asked.input)) came ended yields made
 
 -- what the words ask `talk` to do
 abbrev pub talk_task : Talking → Task

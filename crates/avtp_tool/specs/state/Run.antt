@@ -1,5 +1,5 @@
 -- Only private functions and proofs use these definitions. The outcome of a run of any command.
-use Rattle.std.specs.Prelude.{Bool, Option, None, ◌≡◌, ◌≢◌, ◌⊎◌, ℕ, ◌≤◌, List, [], Result, Ok, IsErr, ◌^◌}
+use Rattle.std.specs.Prelude.{Bool, Option, ◌≡◌, ◌≢◌, ◌⊎◌, ℕ, ◌≤◌, List, [], Result, Ok, IsErr, ◌^◌}
 use Rattle.avtp_base.specs.declared.failed.Failed.{Failed}
 use Rattle.avtp_base.specs.Faults.{Rose}
 use Rattle.avtp_base.specs.States.{SinkState}
@@ -11,22 +11,13 @@ use Rattle.run_report.specs.declared.status.Status.{Status}
 use Rattle.run_report.specs.declared.status.Status.TheVariants as status
 use Rattle.run_report.specs.Runs.{Task}
 use Rattle.avtp_base.specs.Files.{Files}
-use Rattle.avtp_words.specs.Grammar.{Listening}
-use Rattle.run_report.specs.Outcome.{Only}
-use Rattle.run_report.specs.Reading.{PlanOutcome}
-use Rattle.run_report.specs.Yield.{Yield, says, with_more}
-use Rattle.check_command.specs.Check.{check_plan}
-use Rattle.listen_command.specs.Listen.{listen_plan, device_status, device_notice}
-use Rattle.agree_command.specs.Agree.{AgreeYields}
-use Rattle.gateway_command.specs.Gateway.{GatewayYields}
-use Rattle.talk_command.specs.Talk.{TalkYields}
-use Rattle.avtp_tool.specs.Show.{show_plan}
-use Rattle.avtp_tool.specs.Soak.{soak_report}
+use Rattle.run_report.specs.RunReport.{Halts}
+use Rattle.run_report.specs.Yield.{Yield}
 use Rattle.listen_command.specs.Listen.{IsListening}
 use Rattle.agree_command.specs.Agree.{IsAgreeing}
 use Rattle.gateway_command.specs.Gateway.{IsTurning}
 use Rattle.talk_command.specs.Talk.{talk_plan}
-use Rattle.avtp_tool.specs.Run.{again_of, is_listening}
+use Rattle.avtp_tool.specs.Run.{again_of, CanEndWith, is_listening, report_for}
 
 -- The pending text was written, and the run ends with the status `result`. If the sink took everything, `result` is the
 -- run's own status. If the sink did not take everything, `result` is `WriteFault`. The sink keeps what it held, and got
@@ -39,27 +30,9 @@ pub record Finishes (out out' : SinkState) (waits waits' : List ℕ) (ended : Re
   pub fault : result ≡ status.WriteFault → IsErr ended ⊎ ((ended ≡ Ok status.WriteFault) ⊎ Rose out.faults out'.faults)
   pub quiet : result ≢ status.WriteFault → out'.faults ≡ out.faults
 
--- A possible outcome of a run of `listen` over these files. `heard` is the status of reading the files, and `given` is
--- the yield of reading them. If a device failed and `heard` is `Done`, the run's status and its last line say that a
--- device failed.
-pub record ListenOutcome (asked : Listening) (files : Files) (fault : Type 0) (failed : Bool) (came : List (List ℕ)) (ended : Status) (yields : Yield) : Type 0 where
-  pub heard : Status
-  pub given : Yield
-  pub reads : PlanOutcome (listen_plan asked) files fault came heard given
-  pub status : ended ≡ device_status failed heard
-  pub notice : yields ≡ with_more given (says (device_notice failed heard))
-
--- The possible outcomes of a run of the request over these files: the names that the run reaches, its status, its
--- yield, and the capture that it makes, if any. A read fault is possible only if `fault` holds. `failed` says whether a
--- device failed.
+-- what a run of the request over these files did, under one of the read faults that are possible
 abbrev pub Outcome : Request → Files → Type 0 → Bool → List (List ℕ) → Status → Yield → Option (List ℕ) → Type 0
-Outcome (show limit file) files fault failed came ended yields made = PlanOutcome (show_plan limit file) files fault came ended yields × (made ≡ None)
-Outcome (check limit names) files fault failed came ended yields made = PlanOutcome (check_plan limit names) files fault came ended yields × (made ≡ None)
-Outcome (listen asked) files fault failed came ended yields made = ListenOutcome asked files fault failed came ended yields × (made ≡ None)
-Outcome (talk asked) files fault failed came ended yields made = TalkYields asked files fault came ended yields made
-Outcome (soak packets) files fault failed came ended yields made = (came ≡ []) × Only status.Done (says (soak_report packets)) ended yields × (made ≡ None)
-Outcome (agree asked) files fault failed came ended yields made = AgreeYields asked files fault came ended yields × (made ≡ None)
-Outcome (gateway asked) files fault failed came ended yields made = GatewayYields asked files fault came ended yields made
+Outcome request files fault failed came ended yields made = Halts (CanEndWith request files fault) (report_for request files failed) came ended yields made
 
 -- what a request asks a command to do
 abbrev pub task_of : Request → Task
