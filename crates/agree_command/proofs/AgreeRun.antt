@@ -31,6 +31,10 @@ use Rattle.avtp_base.specs.declared.failed.OpenFault.TheVariants as open_fault
 use Rattle.run_report.specs.declared.status.Status.{Status}
 use Rattle.run_report.specs.Outcome.{TellsRun, EndsWith, TellsYield, CountsReading, EndsUnopened, KeepsSink}
 use Rattle.run_report.specs.Yield.{HandsNothing, says, Gives, Yield}
+use Rattle.run_report.specs.RunReport.{ends_unread, run_of}
+use Rattle.run_report.specs.Halt.{Halt, CanHalt, no_halt, not_opened, stopped_after}
+use Rattle.run_report.proofs.OneFile.{stopped_at}
+use Rattle.capture_io.specs.Ends.{EndsAt}
 use Rattle.run_report.proofs.Outcomes.{IsCut, tells_cut, tells_end, missing_none, tells_last, yield_telling, counts_unopened, unopened_own, unopened_undone, counts_by, sink_then, counts_memory, sink_ok, counts_failed, sink_err}
 use Rattle.run_report.proofs.Runs.{run_asked, run_cut}
 use Rattle.run_report.proofs.Yields.{part_text, part_whole, part_none}
@@ -40,8 +44,7 @@ use Rattle.run_report.specs.Listener.{plan_of}
 use Rattle.run_report.proofs.Files.{shown_before}
 use Rattle.run_report.proofs.Leaving.{own_as}
 use Rattle.run_report.specs.declared.status.Status.TheVariants as status
-use Rattle.agree_command.specs.Agree.{AgreeOutcome, agree_came, agree_ended, agree_report, compared_text, difference_lines, merged_in, AgreeYields, agree_status, last_lines, HasAgreement}
-use Rattle.agree_command.specs.Agree.AgreeOutcome.{without_a, without_b, compared, cut_a, cut_b}
+use Rattle.agree_command.specs.Agree.{text_without_a, text_without_b, agreed, compared_status, agree_report, compared_text, difference_lines, merged_in, AgreeYields, agree_status, last_lines, HasAgreement}
 use Rattle.agree_command.specs.state.Comparing.{IsCutIn, HasCompared, Refuses, RefusesTwo, AreTold, ClosesTwo, Compares, ComparesTo, OpensTwo}
 use Rattle.agree_command.specs.state.Comparing.IsCutIn.{in_a, in_b}
 use Rattle.agree_command.specs.state.Agree.{EndsWithLines}
@@ -51,56 +54,71 @@ use Rattle.agree_command.specs.declared.comparing.Comparing.{Comparing}
 use Rattle.agree_command.proofs.TwoFiles.{both_closed}
 use Rattle.agree_command.specs.declared.comparing.Compared.TheVariants as ended_as
 
--- ---- the outcome of a run if no read fault occurs
+-- ---- the possible outcomes
 
-pub agree_here : (asked : Agreeing) (files : Files) (fault : Type 0) → AgreeOutcome asked files fault (agree_came asked (files asked.a)) (agree_ended asked (files asked.a) (files asked.b)) (agree_report asked (files asked.a) (files asked.b))
-agree_here asked files fault = at (files asked.a) (files asked.b) refl refl where
-  at : (a b : Option (List ℕ)) → files asked.a ≡ a → files asked.b ≡ b → AgreeOutcome asked files fault (agree_came asked a) (agree_ended asked a b) (agree_report asked a b)
-  at None b is_a is_b = without_a (inl is_a) refl refl refl
-  at (Some x) None is_a is_b = without_b (subst IsSome (sym is_a) refl) (inl is_b) refl refl refl
-  at (Some x) (Some y) is_a is_b = compared x y is_a is_b refl refl refl
+-- `agree` makes no capture
+makes_none : (asked : Agreeing) (a b : Option (List ℕ)) → let report = agree_report asked a b no_halt in run_of report.came report.ended report.yields None ≡ report
+makes_none asked None b = refl
+makes_none asked (Some x) None = refl
+makes_none asked (Some x) (Some y) = refl
 
-came_all : (asked : Agreeing) (a : Option (List ℕ)) → IsSome a → agree_came asked a ≡ asked.a ∷ asked.b ∷ []
-came_all asked None some = absurd cc
-came_all asked (Some x) some = refl
+-- `agree` ends with a read fault if A is not opened
+unread_a : (asked : Agreeing) (a b : Option (List ℕ)) → agree_report asked a b (not_opened zero) ≡ ends_unread (asked.a ∷ [])
+unread_a asked None b = refl
+unread_a asked (Some x) b = refl
 
-missing_b : (asked : Agreeing) (a : Option (List ℕ)) → (agree_ended asked a None ≡ status.ReadFault) × (agree_report asked a None ≡ read_fault_line)
-missing_b asked None = (refl, refl)
-missing_b asked (Some x) = (refl, refl)
+-- `agree` ends with a read fault if A is opened and B is not
+unread_b : (asked : Agreeing) (a b : Option (List ℕ)) → IsSome a → (agree_report asked a None no_halt ≡ ends_unread (asked.a ∷ asked.b ∷ [])) × (agree_report asked a b (not_opened (suc zero)) ≡ ends_unread (asked.a ∷ asked.b ∷ []))
+unread_b asked None b some = absurd cc
+unread_b asked (Some x) None some = (refl, refl)
+unread_b asked (Some x) (Some y) some = (refl, refl)
 
--- the outcome of a run without read faults, given the bytes of A and of B, or `None` for a missing file
-abbrev pub ComesTo : Agreeing → List (List ℕ) → Status → List ℕ → Option (List ℕ) → Option (List ℕ) → Type 0
-ComesTo asked came ended text a b = (came ≡ agree_came asked a) × (ended ≡ agree_ended asked a b) × (text ≡ agree_report asked a b)
+module _ (asked : Agreeing) (files : Files) (fault : Type 0) where
+  -- A was not opened
+  without_a : IsUnopened files fault asked.a → AgreeYields asked files fault (asked.a ∷ []) status.ReadFault (says read_fault_line)
+  without_a (inl is) = (no_halt, tt, rw is refl)
+  without_a (inr f) = (not_opened zero, f, sym (unread_a asked (files asked.a) (files asked.b)))
 
-pub agree_complete : {asked : Agreeing} {files : Files} {fault : Type 0} {came : List (List ℕ)} {ended : Status} {text : List ℕ} → (fault → ⊥) → AgreeOutcome asked files fault came ended text → ComesTo asked came ended text (files asked.a) (files asked.b)
-agree_complete {asked} {files} {fault} {came} {ended} {text} none (without_a (inl is) c e t) = subst (λ (a : Option (List ℕ)). ComesTo asked came ended text a (files asked.b)) (sym is) (c, e, t)
-agree_complete none (without_a (inr f) c e t) = absurd (none f)
-agree_complete {asked} {files} {fault} {came} {ended} {text} none (without_b some (inl is) c e t) =
-    let missing = missing_b asked (files asked.a) in
-    subst (ComesTo asked came ended text (files asked.a)) (sym is) (c ∙ sym (came_all asked (files asked.a) some), e ∙ sym missing.0, t ∙ sym missing.1)
-agree_complete none (without_b some (inr f) c e t) = absurd (none f)
-agree_complete {asked} {files} {fault} {came} {ended} {text} none (compared x y is_a is_b c e t) =
-    subst (λ (a : Option (List ℕ)). ComesTo asked came ended text a (files asked.b)) (sym is_a) (subst (ComesTo asked came ended text (Some x)) (sym is_b) (c, e, t))
-agree_complete none (cut_a x y prefix is_a is_b c ends e t) = absurd (none ends.0)
-agree_complete none (cut_b x y prefix is_a is_b c ends e t) = absurd (none ends.0)
+  -- A was opened, and B was not
+  without_b : IsSome (files asked.a) → IsUnopened files fault asked.b → AgreeYields asked files fault (asked.a ∷ asked.b ∷ []) status.ReadFault (says read_fault_line)
+  without_b some (inl is) = (no_halt, tt, sym (ap (λ (b : Option (List ℕ)). agree_report asked (files asked.a) b no_halt) is ∙ (unread_b asked (files asked.a) None some).0))
+  without_b some (inr f) = (not_opened (suc zero), f, sym (unread_b asked (files asked.a) (files asked.b) some).1)
+
+  -- both files were opened, and each was read to its end, to a refused field or to the limit
+  compared : (x y : List ℕ) → files asked.a ≡ Some x → files asked.b ≡ Some y → AgreeYields asked files fault (asked.a ∷ asked.b ∷ []) (compared_status asked x y) (says (compared_text asked x y))
+  compared x y is_a is_b = (no_halt, tt, rw (is_a, is_b) refl)
+
+  -- a read fault occurred after a prefix of A
+  cut_a : (x y prefix : List ℕ) → files asked.a ≡ Some x → files asked.b ≡ Some y → EndsAt asked.listener.limit (Some x) fault end.ReadFault prefix
+      → AgreeYields asked files fault (asked.a ∷ asked.b ∷ []) status.ReadFault (says (text_without_a asked prefix y))
+  cut_a x y prefix is_a is_b ends =
+      let at = stopped_at asked.listener.limit x prefix fault ends in
+      (stopped_after zero (length prefix), (at.1, rw is_a at.2), rw (is_a, is_b) (ap (λ (p : List ℕ). agreed asked status.ReadFault (text_without_a asked p y)) at.0))
+
+  -- a read fault occurred after a prefix of B
+  cut_b : (x y prefix : List ℕ) → files asked.a ≡ Some x → files asked.b ≡ Some y → EndsAt asked.listener.limit (Some y) fault end.ReadFault prefix
+      → AgreeYields asked files fault (asked.a ∷ asked.b ∷ []) status.ReadFault (says (text_without_b asked x prefix))
+  cut_b x y prefix is_a is_b ends =
+      let at = stopped_at asked.listener.limit y prefix fault ends in
+      (stopped_after (suc zero) (length prefix), (at.1, rw is_b at.2), rw (is_a, is_b) (ap (λ (p : List ℕ). agreed asked status.ReadFault (text_without_b asked x p)) at.0))
 
 -- ---- both files were opened
 
-pub agree_cut : {asked : Agreeing} {all : Files} {fault : Type 0} {s t : ShelfState} {before now : Option (List ℕ)} {result : Result Status Failed} (x y : List ℕ) → all asked.a ≡ Some x → all asked.b ≡ Some y → IsCut result
+pub agree_cut : (asked : Agreeing) (all : Files) (fault : Type 0) {s t : ShelfState} {before now : Option (List ℕ)} {result : Result Status Failed} (x y : List ℕ) → all asked.a ≡ Some x → all asked.b ≡ Some y → IsCut result
     → AppendsPrefix before now (difference_lines (differences (merged_in asked x y))) → Asks (asked.a ∷ asked.b ∷ []) s t → TellsRun (AgreeYields asked all fault) HandsNothing s t before now result
-agree_cut {asked} {all} {fault} {s} {t} {before} {now} {result} x y is_a is_b cut prefix asks =
+agree_cut asked all fault {s} {t} {before} {now} {result} x y is_a is_b cut prefix asks =
     run_asked (AgreeYields asked all fault) (asked.a ∷ asked.b ∷ [])
-    (tells_cut _ (says (compared_text asked x y)) (compared x y is_a is_b refl refl refl, refl) cut (part_text refl (says (compared_text asked x y)) (prefix_before before now _ _ prefix))) asks
+    (tells_cut (compared_status asked x y) (says (compared_text asked x y)) (compared asked all fault x y is_a is_b) cut (part_text refl (says (compared_text asked x y)) (prefix_before before now _ _ prefix))) asks
 
-pub agree_fault : {asked : Agreeing} {all : Files} {fault fault' : Type 0} {s t : ShelfState} {before : Option (List ℕ)} {h h' : SinkState} {w w' : List ℕ} {result : Result Status Failed} (x y : List ℕ) → all asked.a ≡ Some x → all asked.b ≡ Some y → (fault → fault')
+pub agree_fault : (asked : Agreeing) (all : Files) (fault fault' : Type 0) {s t : ShelfState} {before : Option (List ℕ)} {h h' : SinkState} {w w' : List ℕ} {result : Result Status Failed} (x y : List ℕ) → all asked.a ≡ Some x → all asked.b ≡ Some y → (fault → fault')
     → IsCutIn asked x y fault before (written h.held w) → EndsWith status.ReadFault h h' w w' result read_fault_line → Asks (asked.a ∷ asked.b ∷ []) s t
     → TellsRun (AgreeYields asked all fault') HandsNothing s t before (written h'.held w') result
-agree_fault {asked} {all} {fault} {fault'} x y is_a is_b cause (in_a prefix ends lines) last asks =
+agree_fault asked all fault fault' x y is_a is_b cause (in_a prefix ends lines) last asks =
     run_asked (AgreeYields asked all fault') (asked.a ∷ asked.b ∷ [])
-    (tells_end _ [] (cut_a x y prefix is_a is_b refl (ends_weaker asked.listener.limit (Some x) fault fault' end.ReadFault prefix cause ends) refl refl, refl) lines refl last) asks
-agree_fault {asked} {all} {fault} {fault'} x y is_a is_b cause (in_b prefix ends lines) last asks =
+    (tells_end _ [] (cut_a asked all fault' x y prefix is_a is_b (ends_weaker asked.listener.limit (Some x) fault fault' end.ReadFault prefix cause ends)) lines refl last) asks
+agree_fault asked all fault fault' x y is_a is_b cause (in_b prefix ends lines) last asks =
     run_asked (AgreeYields asked all fault') (asked.a ∷ asked.b ∷ [])
-    (tells_end _ [] (cut_b x y prefix is_a is_b refl (ends_weaker asked.listener.limit (Some y) fault fault' end.ReadFault prefix cause ends) refl refl, refl) lines refl last) asks
+    (tells_end _ [] (cut_b asked all fault' x y prefix is_a is_b (ends_weaker asked.listener.limit (Some y) fault fault' end.ReadFault prefix cause ends)) lines refl last) asks
 
 lines_end : {Outcome : Status → Yield → Type 0} {before : Option (List ℕ)} {h h' : SinkState} {w w' : List ℕ} {result : Result Status Failed} {ended : Status} {lines : List ℕ} (text : List ℕ)
     → Outcome ended (says (text ++ lines)) → Appends before (written h.held w) text → EndsWithLines ended h h' w w' result lines → TellsYield Outcome HandsNothing before (written h'.held w') result
@@ -110,13 +128,13 @@ lines_end {before = before} {h} {h'} {w} {w'} {result = Ok s} {ended} {lines} te
 lines_end {before = before} {h} {h'} {w} {w'} {result = Err e} {ended} {lines} text outcome start last =
     record { ended = ended; yields = says (text ++ lines); outcome = outcome; whole = tt; part = part_text refl (says (text ++ lines)) (prefix_after before (written h.held w) (written h'.held w') text lines start last.written) }
 
-pub agree_told : {asked : Agreeing} {all : Files} {fault : Type 0} {s t : ShelfState} {before : Option (List ℕ)} {h h' : SinkState} {w w' : List ℕ} {result : Result Status Failed} {a b : End} {counts : PairCounts} (x y : List ℕ) → all asked.a ≡ Some x → all asked.b ≡ Some y
+pub agree_told : (asked : Agreeing) (all : Files) (fault : Type 0) {s t : ShelfState} {before : Option (List ℕ)} {h h' : SinkState} {w w' : List ℕ} {result : Result Status Failed} {a b : End} {counts : PairCounts} (x y : List ℕ) → all asked.a ≡ Some x → all asked.b ≡ Some y
     → HasCompared asked x y a b counts before (written h.held w) → EndsWithLines (agree_status counts.differ a b) h h' w w' result (last_lines asked.listener.limit counts a b) → Asks (asked.a ∷ asked.b ∷ []) s t
     → TellsRun (AgreeYields asked all fault) HandsNothing s t before (written h'.held w') result
-agree_told {asked} {all} {fault} {h = h} {h'} {w} {w'} {result} {a} {b} {counts} x y is_a is_b has last asks =
+agree_told asked all fault {h = h} {h'} {w} {w'} {result} {a} {b} {counts} x y is_a is_b has last asks =
     let ended : EndsWithLines (agree_status (counts_of (merged_in asked x y)).differ _ _) h h' w w' result (last_lines asked.listener.limit (counts_of (merged_in asked x y)) _ _) = rw (has.counted, has.end_a, has.end_b) at last in
     run_asked (AgreeYields asked all fault) (asked.a ∷ asked.b ∷ [])
-    (lines_end (difference_lines (differences (merged_in asked x y))) (compared x y is_a is_b refl refl refl, refl) has.lines ended) asks
+    (lines_end (difference_lines (differences (merged_in asked x y))) (compared asked all fault x y is_a is_b) has.lines ended) asks
 
 -- ---- statuses
 
@@ -147,24 +165,25 @@ among_second : (a b name : List ℕ) → Contains (b ∷ []) name → Contains (
 among_second a b name (zero, less, is) = (1, omega arith, is)
 among_second a b name (suc n, less, is) = absurd (omega arith)
 
-unopened_run : {asked : Agreeing} {all : Files} {s t : ShelfState} {h h' : SinkState} {w w' : List ℕ} {result : Result Status Failed} (fault : OpenFault) (name : List ℕ) (came : List (List ℕ)) → s.files ≡ Some all → Refuses s t name fault → EndsUnopened fault h h' w w' result
-    → (IsUnopened all (Rose s.reading_faults t.reading_faults) name → AgreeOutcome asked all (Rose s.reading_faults t.reading_faults) came status.ReadFault read_fault_line) → Asks came s t
+unopened_run : (asked : Agreeing) (all : Files) {s t : ShelfState} {h h' : SinkState} {w w' : List ℕ} {result : Result Status Failed} (fault : OpenFault) (name : List ℕ) (came : List (List ℕ)) → s.files ≡ Some all → Refuses s t name fault → EndsUnopened fault h h' w w' result
+    → (IsUnopened all (Rose s.reading_faults t.reading_faults) name → AgreeYields asked all (Rose s.reading_faults t.reading_faults) came status.ReadFault (says read_fault_line)) → Asks came s t
     → TellsRun (AgreeYields asked all (Rose s.reading_faults t.reading_faults)) HandsNothing s t (written h.held w) (written h'.held w') result
-unopened_run {asked} {all} {s} {t} {h} {h'} {w} {w'} {result} open_fault.Memory name came told refuses ends outcome asks =
+unopened_run asked all {s} {t} {h} {h'} {w} {w'} {result} open_fault.Memory name came told refuses ends outcome asks =
     let left = ends.memory refl in
-    let yields = says (agree_report asked (all asked.a) (all asked.b)) in
-    run_cut (AgreeYields asked all (Rose s.reading_faults t.reading_faults)) (agree_came asked (all asked.a)) (agree_ended asked (all asked.a) (all asked.b)) yields (agree_here asked all _, refl) (subst IsCut (sym left.0) (inl refl)) (part_none refl yields left.1)
-unopened_run {asked} {all} {s} {t} {h} {h'} {w} {w'} open_fault.Missing name came told refuses ends outcome asks =
+    let report = agree_report asked (all asked.a) (all asked.b) no_halt in
+    let yields = report.yields in
+    run_cut (AgreeYields asked all (Rose s.reading_faults t.reading_faults)) report.came report.ended yields (no_halt, tt, makes_none asked (all asked.a) (all asked.b)) (subst IsCut (sym left.0) (inl refl)) (part_none refl yields left.1)
+unopened_run asked all {s} {t} {h} {h'} {w} {w'} open_fault.Missing name came told refuses ends outcome asks =
     run_asked (AgreeYields asked all (Rose s.reading_faults t.reading_faults)) came
-    (tells_last (yield_telling (written h.held w) (written h'.held w') read_fault_line refl) (outcome (inl (missing_none s.files name all told (refuses.missing refl))), refl) (ends.other (λ e. cc))) asks
-unopened_run {asked} {all} {s} {t} {h} {h'} {w} {w'} open_fault.Failed name came told refuses ends outcome asks =
+    (tells_last (yield_telling (written h.held w) (written h'.held w') read_fault_line refl) (outcome (inl (missing_none s.files name all told (refuses.missing refl)))) (ends.other (λ e. cc))) asks
+unopened_run asked all {s} {t} {h} {h'} {w} {w'} open_fault.Failed name came told refuses ends outcome asks =
     run_asked (AgreeYields asked all (Rose s.reading_faults t.reading_faults)) came
-    (tells_last (yield_telling (written h.held w) (written h'.held w') read_fault_line refl) (outcome (inr (refuses.counted.failed refl)), refl) (ends.other (λ e. cc))) asks
+    (tells_last (yield_telling (written h.held w) (written h'.held w') read_fault_line refl) (outcome (inr (refuses.counted.failed refl))) (ends.other (λ e. cc))) asks
 
 pub agree_unopened : {s t : ShelfState} {h h' : SinkState} {w w' : List ℕ} {result : Result Status Failed} (asked : Agreeing) (fault : OpenFault) → RefusesTwo s t asked.a asked.b fault → EndsUnopened fault h h' w w' result
     → DoesReading (AgreeYields asked) (asked.a ∷ asked.b ∷ []) HandsNothing s t h h' w w' result
 agree_unopened {s} {t} {result = result} asked fault (first only refuses) ends = record {
-  tells = λ all told still. unopened_run fault asked.a (asked.a ∷ []) told refuses ends (λ cause. without_a cause refl refl refl) only.asked;
+  tells = λ all told still. unopened_run asked all fault asked.a (asked.a ∷ []) told refuses ends (without_a asked all _) only.asked;
   count = 1;
   within = omega arith;
   all = λ done. absurd (unopened_undone fault result ends done);
@@ -174,7 +193,7 @@ agree_unopened {s} {t} {result = result} asked fault (first only refuses) ends =
   sink = ends.sink;
 }
 agree_unopened {s} {t} {result = result} asked fault (second there only refuses) ends = record {
-  tells = λ all told still. unopened_run fault asked.b (asked.a ∷ asked.b ∷ []) told refuses ends (λ cause. without_b (there all told) cause refl refl refl) only.asked;
+  tells = λ all told still. unopened_run asked all fault asked.b (asked.a ∷ asked.b ∷ []) told refuses ends (without_b asked all _ (there all told)) only.asked;
   count = 2;
   within = omega arith;
   all = λ done. refl;
@@ -212,7 +231,7 @@ agree_ends {s} {t} {u} {v} {result = result} {a} {b} {counts} asked opened compa
     let ends = reads_status counts.differ a b counted.0 counted.1 in
     let same : v.reading_faults ≡ s.reading_faults = closes.reading ∙ counted.2 ∙ opened.opened.reading in
     does_over asked opened compares closes
-    (λ all told still. let so = told_over asked opened compares closes all told still in agree_told so.0.bytes_a so.0.bytes_b so.0.is_a so.0.is_b so.1 last (both_read asked opened compares closes).asked)
+    (λ all told still. let so = told_over asked opened compares closes all told still in agree_told asked all _ so.0.bytes_a so.0.bytes_b so.0.is_a so.0.is_b so.1 last (both_read asked opened compares closes).asked)
     (counts_by (agree_status counts.differ a b) result (both_read asked opened compares closes).reading (inl (ends.1, same)) last.status) (own_as result (agree_status counts.differ a b) ends.0 last.status) (sink_then compares.sink last.sink)
 
 pub agree_stops : {s t u v : ShelfState} {c c' : Comparing} {h mid h' : SinkState} {w m w' : List ℕ} {result : Result Status Failed} (asked : Agreeing) → OpensTwo s t asked.listener.limit (plan_of asked.listener) asked.a asked.b (Ok c)
@@ -221,21 +240,21 @@ pub agree_stops : {s t u v : ShelfState} {c c' : Comparing} {h mid h' : SinkStat
 agree_stops {s} {t} {u} {v} {result = result} asked opened compares closes last =
     let rose = rose_over asked opened compares closes in
     does_over asked opened compares closes
-    (λ all told still. let so = told_over asked opened compares closes all told still in agree_fault so.0.bytes_a so.0.bytes_b so.0.is_a so.0.is_b rose so.1 last (both_read asked opened compares closes).asked)
+    (λ all told still. let so = told_over asked opened compares closes all told still in agree_fault asked all _ _ so.0.bytes_a so.0.bytes_b so.0.is_a so.0.is_b rose so.1 last (both_read asked opened compares closes).asked)
     (counts_by status.ReadFault result (both_read asked opened compares closes).reading (inr (refl, rose compares.counted)) last.status) (own_as result status.ReadFault refl last.status) (sink_then compares.sink last.sink)
 
 pub agree_no_memory : {s t u v : ShelfState} {c c' : Comparing} {h mid : SinkState} {w m : List ℕ} (asked : Agreeing) → OpensTwo s t asked.listener.limit (plan_of asked.listener) asked.a asked.b (Ok c)
     → Compares t u c c' h mid w m (Ok ended_as.NoMemory) → ClosesTwo u v (slot_of c'.a.source) (slot_of c'.b.source) → DoesReading (AgreeYields asked) (asked.a ∷ asked.b ∷ []) HandsNothing s v h mid w m (Ok status.Memory)
 agree_no_memory asked opened compares closes =
     does_over asked opened compares closes
-    (λ all told still. let so = told_over asked opened compares closes all told still in agree_cut so.0.bytes_a so.0.bytes_b so.0.is_a so.0.is_b (inl refl) so.1 (both_read asked opened compares closes).asked)
+    (λ all told still. let so = told_over asked opened compares closes all told still in agree_cut asked all _ so.0.bytes_a so.0.bytes_b so.0.is_a so.0.is_b (inl refl) so.1 (both_read asked opened compares closes).asked)
     (counts_memory (Ok status.Memory) (both_read asked opened compares closes).reading refl) refl (sink_ok status.Memory compares.sink)
 
 pub agree_failed : {s t u v : ShelfState} {c c' : Comparing} {h mid : SinkState} {w m : List ℕ} {e : Failed} (e' : Failed) (asked : Agreeing) → OpensTwo s t asked.listener.limit (plan_of asked.listener) asked.a asked.b (Ok c)
     → Compares t u c c' h mid w m (Err e) → ClosesTwo u v (slot_of c'.a.source) (slot_of c'.b.source) → DoesReading (AgreeYields asked) (asked.a ∷ asked.b ∷ []) HandsNothing s v h mid w m (Err e')
 agree_failed e' asked opened compares closes =
     does_over asked opened compares closes
-    (λ all told still. let so = told_over asked opened compares closes all told still in agree_cut so.0.bytes_a so.0.bytes_b so.0.is_a so.0.is_b tt so.1 (both_read asked opened compares closes).asked)
+    (λ all told still. let so = told_over asked opened compares closes all told still in agree_cut asked all _ so.0.bytes_a so.0.bytes_b so.0.is_a so.0.is_b tt so.1 (both_read asked opened compares closes).asked)
     (counts_failed e' (both_read asked opened compares closes).reading) tt (sink_err compares.sink)
 
 -- ---- two captures of one talker

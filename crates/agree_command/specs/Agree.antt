@@ -1,5 +1,5 @@
 -- What `agree` prints and how it ends.
-use Rattle.std.specs.Prelude.{ℕ, List, flat_map, ◌++◌, ◌==◌, if◌then◌else◌, take, true, false, ◌≡◌, [], ◌∷◌, Some, IsSome, Option, None, Any, slice_get, ◌^◌, ◌≤◌}
+use Rattle.std.specs.Prelude.{zero, suc, ℕ, List, flat_map, ◌++◌, ◌==◌, if◌then◌else◌, take, true, false, ◌≡◌, [], ◌∷◌, Some, IsSome, Option, None, Any, slice_get, ◌^◌, ◌≤◌}
 use Rattle.std.specs.List.{AllByRecursion}
 use Rattle.listener_pair.specs.declared.difference.Way.{Way}
 use Rattle.listener_pair.specs.declared.difference.Way.TheVariants.{Count, At, Bytes}
@@ -26,7 +26,9 @@ use Rattle.run_report.specs.Endings.{side_line, IsUnopened}
 use Rattle.run_report.specs.declared.status.Status.{Status}
 use Rattle.run_report.specs.Status.{status_of}
 use Rattle.run_report.specs.Listener.{plan_of}
-use Rattle.run_report.specs.Yield.{Yield}
+use Rattle.run_report.specs.Yield.{Yield, says}
+use Rattle.run_report.specs.RunReport.{Halts, RunReport, ends_unread}
+use Rattle.run_report.specs.Halt.{CanHalt, Halt, no_halt, not_opened, stopped_after}
 use Rattle.run_report.specs.declared.status.Status.TheVariants as status
 
 -- ---- lines
@@ -101,42 +103,21 @@ text_without_a asked prefix y = difference_lines (differences (known false true 
 abbrev pub text_without_b : Agreeing → List ℕ → List ℕ → List ℕ
 text_without_b asked x prefix = difference_lines (differences (known true false (merged (presented_in asked x) (due_in asked prefix)))) ++ read_fault_line
 
--- The possible outcomes of a run of `agree` over these files: the names that the run asks for, its status, and its
--- text. A read fault is possible only if `fault` holds.
-pub data AgreeOutcome (asked : Agreeing) (files : Files) (fault : Type 0) (came : List (List ℕ)) (ended : Status) (text : List ℕ) : Type 0 where
-  -- A was not opened.
-  without_a : IsUnopened files fault asked.a → came ≡ asked.a ∷ [] → ended ≡ status.ReadFault → text ≡ read_fault_line → AgreeOutcome asked files fault came ended text
-  -- A was opened, and B was not.
-  without_b : IsSome (files asked.a) → IsUnopened files fault asked.b → came ≡ asked.a ∷ asked.b ∷ [] → ended ≡ status.ReadFault → text ≡ read_fault_line → AgreeOutcome asked files fault came ended text
-  -- Both files were opened, and each was read to its end, to a refused field or to the limit.
-  compared : (x y : List ℕ) → files asked.a ≡ Some x → files asked.b ≡ Some y → came ≡ asked.a ∷ asked.b ∷ []
-      → ended ≡ compared_status asked x y → text ≡ compared_text asked x y → AgreeOutcome asked files fault came ended text
-  -- A read fault occurred after a prefix of A.
-  cut_a : (x y prefix : List ℕ) → files asked.a ≡ Some x → files asked.b ≡ Some y → came ≡ asked.a ∷ asked.b ∷ []
-      → EndsAt asked.listener.limit (Some x) fault end.ReadFault prefix → ended ≡ status.ReadFault → text ≡ text_without_a asked prefix y → AgreeOutcome asked files fault came ended text
-  -- A read fault occurred after a prefix of B.
-  cut_b : (x y prefix : List ℕ) → files asked.a ≡ Some x → files asked.b ≡ Some y → came ≡ asked.a ∷ asked.b ∷ []
-      → EndsAt asked.listener.limit (Some y) fault end.ReadFault prefix → ended ≡ status.ReadFault → text ≡ text_without_b asked x prefix → AgreeOutcome asked files fault came ended text
+-- ---- a run
 
--- ---- if no read fault occurs
+-- a run of `agree` that opened both files, ends with this status and prints this text
+abbrev pub agreed : Agreeing → Status → List ℕ → RunReport
+agreed asked ended text = record { came = asked.a ∷ asked.b ∷ []; ended = ended; yields = says text; made = None }
 
--- the names that `agree` asks for if no read fault occurs, given the bytes of A, or `None` if A is missing
-abbrev pub agree_came : Agreeing → Option (List ℕ) → List (List ℕ)
-agree_came asked None = asked.a ∷ []
-agree_came asked (Some x) = asked.a ∷ asked.b ∷ []
-
--- the status of `agree` if no read fault occurs, given the bytes of A and of B, or `None` for a missing file
-abbrev pub agree_ended : Agreeing → Option (List ℕ) → Option (List ℕ) → Status
-agree_ended asked None told = status.ReadFault
-agree_ended asked (Some x) None = status.ReadFault
-agree_ended asked (Some x) (Some y) = compared_status asked x y
-
--- The whole text of `agree` if no read fault occurs. The two options hold the bytes of A and of B; an option is `None`
--- for a missing file.
-abbrev pub agree_report : Agreeing → Option (List ℕ) → Option (List ℕ) → List ℕ
-agree_report asked None told = read_fault_line
-agree_report asked (Some x) None = read_fault_line
-agree_report asked (Some x) (Some y) = compared_text asked x y
+-- What `agree` does. The two options hold the bytes of A and of B; an option is `None` for a missing file. If A is not
+-- opened, B is not asked for.
+abbrev pub agree_report : Agreeing → Option (List ℕ) → Option (List ℕ) → Halt → RunReport
+agree_report asked None b halt = ends_unread (asked.a ∷ [])
+agree_report asked (Some x) b (not_opened zero) = ends_unread (asked.a ∷ [])
+agree_report asked (Some x) (Some y) no_halt = agreed asked (compared_status asked x y) (compared_text asked x y)
+agree_report asked (Some x) (Some y) (stopped_after zero after) = agreed asked status.ReadFault (text_without_a asked (take after x) y)
+agree_report asked (Some x) (Some y) (stopped_after (suc place) after) = agreed asked status.ReadFault (text_without_b asked x (take after y))
+agree_report asked (Some x) b halt = ends_unread (asked.a ∷ asked.b ∷ [])
 
 -- ---- two captures of a talker that keeps the rules
 
@@ -155,6 +136,7 @@ pub record IsAgreeing (asked : Agreeing) : Type 0 where
   pub limit : asked.listener.limit ≤ 2 ^ 40
   pub plan : IsPlan (schedule_plan (plan_of asked.listener))
 
--- what a run of `agree` over these files can result in: the names that the run asks for, the status, and the yield
+-- what a run of `agree` over these files did, under one of the read faults that are possible
 abbrev pub AgreeYields : Agreeing → Files → Type 0 → List (List ℕ) → Status → Yield → Type 0
-AgreeYields asked files fault came ended yields = AgreeOutcome asked files fault came ended yields.text × (yields.items ≡ [])
+AgreeYields asked files fault came ended yields =
+    Halts (CanHalt asked.listener.limit (asked.a ∷ asked.b ∷ []) files fault) (agree_report asked (files asked.a) (files asked.b)) came ended yields None

@@ -22,9 +22,12 @@ use Rattle.run_report.proofs.Leaving.{never_ends, only_read}
 use Rattle.run_report.proofs.Outcomes.{ends_not, sink_then, counts_failed, sink_failed}
 use Rattle.run_report.proofs.Runs.{tells_all, through_as}
 use Rattle.run_report.specs.declared.status.Status.TheVariants as status
-use Rattle.listen_command.specs.Listen.{device_notice, device_status, listen_plan, ListenOutcome}
-use Rattle.avtp_tool.specs.Run.{Outcome}
-use Rattle.avtp_tool.specs.state.Run.{task_of}
+use Rattle.listen_command.specs.Listen.{device_notice, device_status, listen_plan, with_devices}
+use Rattle.avtp_tool.specs.state.Run.{Outcome, task_of}
+
+-- what a run of `listen` did, which makes no file
+abbrev pub HearsOutcome : Listening → Files → Type 0 → Bool → List (List ℕ) → Status → Yield → Type 0
+HearsOutcome asked all fault failed came ended yields = Outcome (listen asked) all fault failed came ended yields None
 
 joins_text : (handed : List Shown → Type 0) → Joins handed HandsNothing handed
 joins_text handed xs ys first none = subst handed (sym (append-nil xs) ∙ ap (λ (l : List Shown). xs ++ l) (sym none)) first
@@ -49,12 +52,12 @@ plain_status true status.DeviceFault plain = (refl, refl)
 plain_status true status.TalkInput plain = (refl, refl)
 
 plain_tells : {s t : ShelfState} {handed : List Shown → Type 0} {before now : Option (List ℕ)} (asked : Listening) (all : Files) (fault : Type 0) (failed : Bool) (result : Result Status Failed) → IsPlain failed result
-    → TellsRun (PlanOutcome (listen_plan asked) all fault) handed s t before now result → TellsRun (ListenOutcome asked all fault failed) handed s t before now result
+    → TellsRun (PlanOutcome (listen_plan asked) all fault) handed s t before now result → TellsRun (HearsOutcome asked all fault failed) handed s t before now result
 plain_tells {s} {t} {handed} {before} {now} asked all fault failed result plain told = record {
   came = told.came;
   ended = device_status failed told.ended;
   yields = with_more told.yields (says (device_notice failed told.ended));
-  outcome = record { heard = told.ended; given = told.yields; reads = told.outcome; status = refl; notice = refl };
+  outcome = (told.outcome.0, told.outcome.1, ap (with_devices failed) told.outcome.2);
   whole = whole_at result plain told.whole;
   part = part_before told.yields (says (device_notice failed told.ended)) told.part;
 } where
@@ -74,7 +77,7 @@ noticed failed ended is done = rw (is, sym done) (refl, refl)
 
 module _ {s t : ShelfState} {handed : List Shown → Type 0} {before : Option (List ℕ)} {h h' : SinkState} {l l' : List ℕ} (asked : Listening) (all : Files) (fault : Type 0) (failed : Bool) where
   fault_tells : (result : Result Status Failed) → failed ≡ true → EndsWith status.DeviceFault h h' l l' result device_fault_line
-      → TellsRun (PlanOutcome (listen_plan asked) all fault) handed s t before (written h.held l) (Ok status.Done) → TellsRun (ListenOutcome asked all fault failed) handed s t before (written h'.held l') result
+      → TellsRun (PlanOutcome (listen_plan asked) all fault) handed s t before (written h.held l) (Ok status.Done) → TellsRun (HearsOutcome asked all fault failed) handed s t before (written h'.held l') result
   fault_tells result is last told =
       let w = told.whole (λ e. cc) (λ e. cc) in
       let said = noticed failed told.ended is w.0 in
@@ -82,7 +85,7 @@ module _ {s t : ShelfState} {handed : List Shown → Type 0} {before : Option (L
         came = told.came;
         ended = device_status failed told.ended;
         yields = with_more told.yields (says (device_notice failed told.ended));
-        outcome = record { heard = told.ended; given = told.yields; reads = told.outcome; status = refl; notice = refl };
+        outcome = (told.outcome.0, told.outcome.1, ap (with_devices failed) told.outcome.2);
         whole = whole_at result last said w.1 w.2;
         part = part_at result last said w.1;
       } where
@@ -103,11 +106,6 @@ module _ {s t : ShelfState} {handed : List Shown → Type 0} {before : Option (L
 
 -- ---- the run
 
--- a run of `listen` makes no file
-tells_listening : {s t : ShelfState} {handed : List Shown → Type 0} {before now : Option (List ℕ)} {result : Result Status Failed} {asked : Listening} {all : Files} {fault : Type 0} {failed : Bool} → TellsRun (ListenOutcome asked all fault failed) handed s t before now result
-    → TellsRun (λ came ended yields. Outcome (listen asked) all fault failed came ended yields None) handed s t before now result
-tells_listening told = record { came = told.came; ended = told.ended; yields = told.yields; outcome = (told.outcome, refl); whole = told.whole; part = told.part }
-
 tells_plain : (asked : Listening) (failed : Bool) (result : Result Status Failed) → IsPlain failed result → (result ≡ Ok status.DeviceFault → ⊥) → TellsDevices (task_of (listen asked)) failed result
 tells_plain asked failed result plain never = record { fault = λ e. absurd (never e); quiet = λ listens done. false_from_ne_true failed (plain done) }
 
@@ -117,7 +115,7 @@ module _ {s t : ShelfState} {h h' : SinkState} {l l' : List ℕ} {handed : List 
       let does = subst (DoesFiles (listen_plan asked) handed s t h h' l l') same did in
       let never = never_ends result status.DeviceFault refl does.own in
       record {
-        tells = λ all told still. tells_all does.keeps.files (tells_listening (plain_tells asked all (Rose s.reading_faults t.reading_faults) failed result plain (does.tells all told still)));
+        tells = λ all told still. tells_all does.keeps.files (plain_tells asked all (Rose s.reading_faults t.reading_faults) failed result plain (does.tells all told still));
         files = does.keeps.files;
         slots = does.keeps.slots;
         counts = does.counts;
@@ -134,7 +132,7 @@ module _ {s t : ShelfState} {h h' : SinkState} {l l' : List ℕ} {handed : List 
       let does = subst (DoesFiles (listen_plan asked) handed s t h h' l l') done did in
       let still : t.reading_faults ≡ s.reading_faults = does.counts.quiet (λ e. cc) (λ e. cc) (λ e. cc) in
       record {
-        tells = λ all told still. tells_all does.keeps.files (tells_listening (fault_tells asked all (Rose s.reading_faults t.reading_faults) failed result is last (does.tells all told still)));
+        tells = λ all told still. tells_all does.keeps.files (fault_tells asked all (Rose s.reading_faults t.reading_faults) failed result is last (does.tells all told still));
         files = does.keeps.files;
         slots = does.keeps.slots;
         counts = record { never_falls = omega (arith, still); fault = λ e. absurd (ends_not status.ReadFault (λ x. cc) last e); quiet = quiet_at result still };

@@ -1,5 +1,5 @@
 pub mod Asked
-pub mod Complete
+pub mod Halts
 pub mod Ended
 pub mod Finished
 pub mod HearFiles

@@ -13,9 +13,9 @@ use Rattle.avtp_base.specs.Files.{Files}
 use Rattle.avtp_words.specs.Grammar.{Request, files_of, output_of, agree, check, gateway, listen, show, soak, talk}
 use Rattle.run_report.specs.declared.status.Status.{Status}
 use Rattle.run_report.specs.Outcome.{is_done, TellsRun, TellsYield, CountsReading, AsksFor}
-use Rattle.run_report.specs.Reading.{InOrder, one_outcome, ReadPlan, DoesFile, DoesFiles, DoesReading}
+use Rattle.run_report.specs.Reading.{ReadPlan, DoesFile, DoesFiles, DoesReading}
 use Rattle.run_report.specs.Yield.{Yield, Gives, HandsNothing}
-use Rattle.run_report.proofs.InOrder.{order_last, order_one}
+use Rattle.run_report.proofs.InOrder.{InOrder, one_outcome, order_last, order_one, StopsAll, tells_plan}
 use Rattle.run_report.proofs.Outcomes.{tells_weaker}
 use Rattle.run_report.proofs.Runs.{run_asked, tells_all, through_as, no_devices}
 use Rattle.run_report.specs.Made.{KeepsFilesBut, KeepsSlotsFor, CountsWriting}
@@ -23,8 +23,8 @@ use Rattle.run_report.specs.Runs.{IsThrough, Runs}
 use Rattle.run_report.proofs.Leaving.{never_ends, only_read}
 use Rattle.run_report.proofs.Yields.{gives_as, part_as}
 use Rattle.run_report.specs.declared.status.Status.TheVariants as status
-use Rattle.avtp_tool.specs.Run.{Outcome, again_of, is_listening}
-use Rattle.avtp_tool.specs.state.Run.{task_of}
+use Rattle.avtp_tool.specs.Run.{again_of, is_listening}
+use Rattle.avtp_tool.specs.state.Run.{Outcome, task_of}
 
 single : {a b : ShelfState} {before now : Option (List ℕ)} {handed : List Shown → Type 0} {result : Result Status Failed} (one : List ℕ → Status → Yield → Type 0) (name : List ℕ) → TellsYield (one name) handed before now result → Asks (name ∷ []) a b
     → TellsRun (InOrder one (name ∷ [])) handed a b before now result
@@ -32,11 +32,11 @@ single one name t asked =
     run_asked (InOrder one (name ∷ [])) (name ∷ [])
     (tells_weaker (λ ended yields outcome. elim (cases_Bool (is_done ended)) [ inl done ↦ order_one one name yields ended done outcome | inr stops ↦ order_last one name yields [] ended stops outcome ]) t) asked
 
-pub one_file : {s t : ShelfState} {h h' : SinkState} {l l' : List ℕ} {result : Result Status Failed} {handed : List Shown → Type 0} (plan : ReadPlan) (name : List ℕ) → plan.names ≡ name ∷ []
+pub one_file : {s t : ShelfState} {h h' : SinkState} {l l' : List ℕ} {result : Result Status Failed} {handed : List Shown → Type 0} (plan : ReadPlan) (name : List ℕ) → StopsAll plan → plan.names ≡ name ∷ []
     → DoesFile (plan.report name) handed plan.limit name s t h h' l l' result → DoesFiles plan handed s t h h' l l' result
-one_file {s} {t} {h} {h'} {l} {l'} {result = result} {handed} plan name named does = record {
-  tells = λ all told still.
-      subst (λ (ns : List (List ℕ)). TellsRun (InOrder (one_outcome plan all (Rose s.reading_faults t.reading_faults)) ns) handed s t (written h.held l) (written h'.held l') result) (sym named) (single (one_outcome plan all (Rose s.reading_faults t.reading_faults)) name (does.tells all told) does.keeps.asked);
+one_file {s} {t} {h} {h'} {l} {l'} {result = result} {handed} plan name stops named does = record {
+  tells = λ all told still. tells_plan plan all _ stops
+      (subst (λ (ns : List (List ℕ)). TellsRun (InOrder (one_outcome plan all (Rose s.reading_faults t.reading_faults)) ns) handed s t (written h.held l) (written h'.held l') result) (sym named) (single (one_outcome plan all (Rose s.reading_faults t.reading_faults)) name (does.tells all told) does.keeps.asked));
   count = length plan.names;
   within = omega arith;
   all = λ done. refl;

@@ -9,7 +9,7 @@ use Rattle.avtp_base.specs.declared.failed.Failed.{Failed}
 use Rattle.avtp_base.specs.States.{Asks, ShelfState, SinkState}
 use Rattle.avtp_text.specs.Written.{Grows, written}
 use Rattle.sample_schedule.specs.declared.shown.Shown.{Shown}
-use Rattle.avtp_base.specs.Faults.{IsCounted}
+use Rattle.avtp_base.specs.Faults.{IsCounted, Rose}
 use Rattle.avtp_text.proofs.Growth.{grows_further}
 use Rattle.avtp_base.proofs.Files.{KeepsFiles-refl}
 use Rattle.avtp_base.proofs.Told.{Appends-nil, Keeps-refl}
@@ -24,37 +24,40 @@ use Rattle.run_report.specs.Outcome.{EndsWith}
 use Rattle.run_report.specs.declared.status.Status.TheVariants as status
 use Rattle.listen_command.specs.Listen.{HasHeadline}
 use Rattle.listen_command.proofs.Headline.{has_headline}
-use Rattle.agree_command.specs.Agree.{HasAgreement, agree_report, compared_text}
+use Rattle.agree_command.specs.Agree.{HasAgreement, compared_text}
 use Rattle.agree_command.proofs.AgreeRun.{has_agreement}
 use Rattle.gateway_command.specs.Gateway.{KeepsInput}
 use Rattle.gateway_command.proofs.GatewayRun.{keeps_input}
-use Rattle.avtp_tool.specs.HasRun.{ComparesTalker, Reports, HasRun, RefusesWords}
-use Rattle.avtp_tool.specs.Run.{yield_for, Outcome, is_listening, names_of, came_for, made_for, status_for}
+use Rattle.avtp_tool.specs.HasRun.{ComparesTalker, Follows, ReadsAll, Reports, HasRun, RefusesWords}
+use Rattle.avtp_tool.specs.Run.{CanEndWith, is_listening, names_of, report_for}
 use Rattle.avtp_tool.specs.state.Run.{task_of, Finishes}
-use Rattle.avtp_tool.proofs.Complete.{complete_of, outcome_here}
+use Rattle.run_report.specs.Halt.{Halt, no_halt}
+use Rattle.run_report.specs.RunReport.{RunReport, run_of}
+use Rattle.avtp_tool.proofs.Halts.{can_end, never_ends_with}
 use Rattle.avtp_tool.proofs.Ended.{quiet_not, asks_same, ended_as, not_ended, quiet_if, through_to, asks_nothing, ends_prefix, ends_whole, offence_ends}
 use Rattle.avtp_tool.proofs.Finished.{flushed, gains_prefix, rose_later}
 
 -- ---- what is printed
 
-agreement_of : (request : Request) (files : Files) (failed : Bool) (yields : Yield) (asked : Agreeing) (x y : List ℕ) (shift : ℤ) (p : PacketJournal)
-    → yields ≡ yield_for request files failed → ComparesTalker request files asked x y shift p → HasAgreement asked p x y yields.text
-agreement_of request files failed yields asked x y shift p whole compares =
-    let same : yields.text ≡ agree_report asked (files asked.a) (files asked.b) = ap (λ (y : Yield). y.text) (whole ∙ ap (λ (q : Request). yield_for q files failed) compares.compares) in
-    let told : yields.text ≡ compared_text asked x y = same ∙ rw (compares.told_a, compares.told_b) refl in
-    subst (HasAgreement asked p x y) (sym told) (has_agreement asked x y shift p compares.hears_a compares.hears_b)
+agreement_of : (request : Request) (files : Files) (failed : Bool) (halt : Halt) (asked : Agreeing) (x y : List ℕ) (shift : ℤ) (p : PacketJournal)
+    → halt ≡ no_halt → ComparesTalker request files asked x y shift p → HasAgreement asked p x y (report_for request files failed halt).yields.text
+agreement_of request files failed halt asked x y shift p none compares =
+    let same : (report_for request files failed halt).yields.text ≡ compared_text asked x y = rw (none, compares.compares, compares.told_a, compares.told_b) refl in
+    subst (HasAgreement asked p x y) (sym same) (has_agreement asked x y shift p compares.hears_a compares.hears_b)
 
-headline_of : (request : Request) (files : Files) (fault : Type 0) (failed : Bool) (came : List (List ℕ)) (ended : Status) (yields : Yield) (made : Option (List ℕ)) → Outcome request files fault failed came ended yields made
-    → (asked : Listening) (earlier later : List (List ℕ)) (name bytes : List ℕ) → request ≡ listen asked → came ≡ earlier ++ name ∷ later → files name ≡ Some bytes → HasHeadline asked files fault earlier name bytes yields
-headline_of request files fault failed came ended yields made outcome asked earlier later name bytes is reached told =
-    has_headline asked files fault failed earlier later came name bytes ended yields (subst (λ (q : Request). Outcome q files fault failed came ended yields made) is outcome).0 reached told
+headline_of : (request : Request) (files : Files) (fault : Type 0) (failed : Bool) (halt : Halt) → CanEndWith request files fault halt
+    → (asked : Listening) (earlier later : List (List ℕ)) (name bytes : List ℕ) → request ≡ listen asked → (report_for request files failed halt).came ≡ earlier ++ name ∷ later → files name ≡ Some bytes
+    → HasHeadline asked files fault earlier name bytes (report_for request files failed halt).yields
+headline_of request files fault failed halt can asked earlier later name bytes is reached told =
+    subst (λ (q : Request). HasHeadline asked files fault earlier name bytes (report_for q files failed halt).yields) (sym is)
+    (has_headline asked files fault failed halt earlier later name bytes (subst (λ (q : Request). CanEndWith q files fault halt) is can) (subst (λ (q : Request). (report_for q files failed halt).came ≡ earlier ++ name ∷ later) is reached) told)
 
-kept_of : (words : List (List ℕ)) (request : Request) (files : Files) (fault : Type 0) (failed : Bool) (came : List (List ℕ)) (reached : Status) (yields : Yield) (made : Option (List ℕ)) (asked : Turning) (capture : List ℕ)
-    → IsCommandLine words request → Outcome request files fault failed came reached yields made → request ≡ gateway asked → made ≡ Some capture → KeepsInput asked files fault reached capture
-kept_of words request files fault failed came reached yields made asked capture line outcome same some =
+kept_of : (words : List (List ℕ)) (request : Request) (files : Files) (fault : Type 0) (failed : Bool) (halt : Halt) (asked : Turning) (capture : List ℕ) → IsCommandLine words request → CanEndWith request files fault halt → request ≡ gateway asked
+    → (report_for request files failed halt).made ≡ Some capture → KeepsInput asked files fault (report_for request files failed halt).ended capture
+kept_of words request files fault failed halt asked capture line can same some =
     let says = subst (IsCommandLine words) same line in
-    let turns = subst (λ (q : Request). Outcome q files fault failed came reached yields made) same outcome in
-    keeps_input capture (gateway_id words asked says.0) turns.0 some
+    subst (λ (q : Request). KeepsInput asked files fault (report_for q files failed halt).ended capture) (sym same)
+    (keeps_input asked files fault halt capture (gateway_id words asked says.0) (subst (λ (q : Request). CanEndWith q files fault halt) same can) (subst (λ (q : Request). (report_for q files failed halt).made ≡ Some capture) same some))
 
 reports_of : (words : List (List ℕ)) {request : Request} {handed : List Shown → Type 0} {failed : Bool} {shelf shelf' : ShelfState} {out mid out' : SinkState} {w w1 w2 : List ℕ} {r : Result Status Failed} {ended : Status}
     → IsCommandLine words request → w ≡ [] → Runs (task_of request) handed failed shelf shelf' out mid w w1 r → Finishes mid out' w1 w2 r ended → Grows out.held out'.held
@@ -62,12 +65,8 @@ reports_of : (words : List (List ℕ)) {request : Request} {handed : List Shown 
 reports_of words {request} {handed} {failed} {shelf} {shelf'} {out} {mid} {out'} {w} {w1} {w2} {r} {ended} line none runs finishes grown files told some =
     let so = runs.tells files told some in
     let tells = so.tells in
-    record {
-      came = tells.came;
-      reached = tells.ended;
-      yields = tells.yields;
-      made = so.made;
-      outcome = tells.outcome;
+    let at = tells.outcome in
+    let follows : Follows (run_of tells.came tells.ended tells.yields so.made) request handed shelf shelf' out out' ended = record {
       whole = λ memory write.
           let done = finishes.whole write in
           let all = subst (λ (q : Result Status Failed). IfOk q (λ s. s ≢ status.Memory → s ≢ status.WriteFault
@@ -79,12 +78,16 @@ reports_of words {request} {handed} {failed} {shelf} {shelf'} {out} {mid} {out'}
       first = tells.part.first;
       given = tells.part.items;
       begun = so.begun;
-      complete = λ quiet. complete_of request files _ failed tells.came tells.ended tells.yields so.made (quiet_not _ _ quiet) tells.outcome;
-      headline = headline_of request files _ failed tells.came tells.ended tells.yields so.made tells.outcome;
-      agreement = λ quiet asked x y shift p compares.
-          agreement_of request files failed tells.yields asked x y shift p
-          (complete_of request files _ failed tells.came tells.ended tells.yields so.made (quiet_not _ _ quiet) tells.outcome).2 compares;
-      kept = λ asked capture same some. kept_of words request files _ failed tells.came tells.ended tells.yields so.made asked capture line tells.outcome same some;
+    } in
+    let complete = λ (quiet : ReadsAll shelf shelf'). never_ends_with request files _ at.0 (quiet_not _ _ quiet) at.1 in
+    record {
+      halt = at.0;
+      possible = at.1;
+      complete = complete;
+      did = subst (λ (report : RunReport). Follows report request handed shelf shelf' out out' ended) at.2 follows;
+      headline = headline_of request files _ failed at.0 at.1;
+      agreement = λ quiet asked x y shift p compares. agreement_of request files failed at.0 asked x y shift p (complete quiet) compares;
+      kept = λ asked capture same makes. kept_of words request files _ failed at.0 asked capture line at.1 same makes;
     }
 
 -- ---- the command
@@ -131,22 +134,20 @@ pub no_memory : (words : List (List ℕ)) (request : Request) (handed : List Sho
     → HasRun request handed still failed shelf shelf out out status.Memory
 no_memory words request handed still failed shelf out line nothing kept = record {
   reports = λ files told some. record {
-    came = came_for request files;
-    reached = status_for request files failed;
-    yields = yield_for request files failed;
-    made = made_for request files;
-    outcome = outcome_here request files _ failed;
-    whole = λ memory write. absurd (memory refl);
-    written = prefix_none _ _ _ (Keeps-refl _);
-    items = [];
-    first = (_, refl);
-    given = nothing;
-    begun = part_kept (output_of request) (made_for request files) shelf.files shelf.files (KeepsFiles-refl shelf.files);
-    complete = λ quiet. (refl, refl, refl, refl);
-    headline = headline_of request files _ failed (came_for request files) (status_for request files failed) (yield_for request files failed) (made_for request files) (outcome_here request files _ failed);
-    agreement = λ quiet asked x y shift p compares. agreement_of request files failed (yield_for request files failed) asked x y shift p refl compares;
-    kept = λ asked capture same some.
-        kept_of words request files _ failed (came_for request files) (status_for request files failed) (yield_for request files failed) (made_for request files) asked capture line (outcome_here request files _ failed) same some;
+    halt = no_halt;
+    possible = can_end request files _;
+    complete = λ quiet. refl;
+    did = record {
+      whole = λ memory write. absurd (memory refl);
+      written = prefix_none _ _ _ (Keeps-refl _);
+      items = [];
+      first = (_, refl);
+      given = nothing;
+      begun = part_kept (output_of request) (report_for request files failed no_halt).made shelf.files shelf.files (KeepsFiles-refl shelf.files);
+    };
+    headline = headline_of request files _ failed no_halt (can_end request files _);
+    agreement = λ quiet asked x y shift p compares. agreement_of request files failed no_halt asked x y shift p refl compares;
+    kept = λ asked capture same makes. kept_of words request files _ failed no_halt asked capture line (can_end request files _) same makes;
   };
   grows = record { more = []; appends = Appends-nil out.held };
   files = files_still (output_of request) shelf.files;

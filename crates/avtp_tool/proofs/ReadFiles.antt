@@ -15,10 +15,13 @@ use Rattle.capture_io.proofs.Leaving.{only_reads_nothing, only_reads_then}
 use Rattle.avtp_base.specs.declared.failed.Failed.{Failed}
 use Rattle.avtp_text.specs.Written.{written}
 use Rattle.run_report.specs.declared.status.Status.{Status}
-use Rattle.run_report.specs.Reading.{InOrder, one_outcome, ReadPlan, joined, DoesFile, one_status, one_yield, DoesFiles, is_of_reading, Report}
+use Rattle.run_report.specs.Reading.{ReadPlan, joined, DoesFile, one_status, one_yield, DoesFiles, is_of_reading, Report}
 use Rattle.run_report.specs.Yield.{Yield, Gives, says, HandsNothing}
+use Rattle.avtp_tool.specs.declared.files.Reading.{Reading}
+use Rattle.avtp_tool.specs.declared.files.Reading.TheVariants.{Check, Listen}
+use Rattle.avtp_tool.specs.state.Files.{plan_for}
 use Rattle.run_report.specs.Outcome.{is_done, CountsReading, TellsYield, IsDone, KeepsSink}
-use Rattle.run_report.proofs.InOrder.{none_read, order_weaker, all_done, tells_done, tells_stopped}
+use Rattle.run_report.proofs.InOrder.{InOrder, one_outcome, StopsAll, tells_plan, none_read, order_weaker, all_done, tells_done, tells_stopped}
 use Rattle.run_report.proofs.OneFile.{file_weaker, file_here}
 use Rattle.run_report.proofs.Yields.{Joins, part_whole, gives_as, part_as}
 use Rattle.run_report.proofs.Outcomes.{sink_then, sink_ok, counts_failed, sink_failed, tells_err}
@@ -151,9 +154,9 @@ reads_more {s} {t} {u} {before} {h'} {h''} {l'} {l''} {so_far = so_far} {result}
     }
 
 pub reads_stopped : {s t u : ShelfState} {k h' h'' : SinkState} {l l' l'' : List ℕ} {so_far : Status} {result : Result Status Failed} {earlier handed all_handed : List Shown → Type 0} (plan : ReadPlan) (files : List (String Global)) (i : ℕ) (d : String Global) (name : List ℕ)
-    → Joins earlier handed all_handed → plan.names ≡ texts files → i < length files → string_bytes (get_or files i d) ≡ name → (IsDone result → ⊥) → ReadsTo plan earlier (take i (texts files)) so_far s t (written k.held l) (written h'.held l')
+    → StopsAll plan → Joins earlier handed all_handed → plan.names ≡ texts files → i < length files → string_bytes (get_or files i d) ≡ name → (IsDone result → ⊥) → ReadsTo plan earlier (take i (texts files)) so_far s t (written k.held l) (written h'.held l')
     → KeepsSink {T = Unit} k h' (Ok tt) → DoesFile (plan.report name) handed plan.limit name t u h' h'' l' l'' result → DoesFiles plan all_handed s u k h'' l l'' result
-reads_stopped {s} {t} {u} {so_far = so_far} {result} plan files i d name join named within is stopped first sink second =
+reads_stopped {s} {t} {u} {so_far = so_far} {result} plan files i d name stops join named within is stopped first sink second =
     let before_it = take i (texts files) in
     let rest = drop (suc i) (texts files) in
     let split = named ∙ split_named files i d name within is in
@@ -164,9 +167,9 @@ reads_stopped {s} {t} {u} {so_far = so_far} {result} plan files i d name join na
           let some = told_still t.files u.files second.keeps.files still in
           let later = told_later s.files t.files all told first.keeps.files some in
           let to = first.tells all told some in
-          tells_stopped (one_outcome plan all (Rose s.reading_faults u.reading_faults)) (one_status plan all) (one_yield plan all) (λ n. file_here (plan.report n) plan.limit (all n) (Rose s.reading_faults u.reading_faults)) join before_it rest plan.names name to.yields so_far split first.done
+          tells_plan plan all _ stops (tells_stopped (one_outcome plan all (Rose s.reading_faults u.reading_faults)) (one_status plan all) (one_yield plan all) (λ n. file_here (plan.report n) plan.limit (all n) (Rose s.reading_faults u.reading_faults)) join before_it rest plan.names name to.yields so_far split first.done
           (order_step s.reading_faults t.reading_faults u.reading_faults so_far to.yields plan all before_it first.reading keeps.reading to.order) to.gives (tells_step t.reading_faults s.reading_faults u.reading_faults plan all later.0 name (later.2 name) first.reading (second.tells later.0 later.1)) stopped
-          (λ names stands. subst (λ (ns : List (List ℕ)). WasAsked u.asked (names ++ ns)) (sym (more_named files i d name within is)) (keeps.asked names stands));
+          (λ names stands. subst (λ (ns : List (List ℕ)). WasAsked u.asked (names ++ ns)) (sym (more_named files i d name within is)) (keeps.asked names stands)));
       count = i + 1;
       within = subst (λ (ns : List (List ℕ)). i + 1 ≤ length ns) (sym named) (omega (arith, within, all_names));
       all = λ done. absurd (stopped done);
@@ -188,16 +191,16 @@ done_reads status.Limit done = refl
 done_reads status.DeviceFault done = absurd cc
 done_reads status.TalkInput done = absurd cc
 
-pub reads_all : {s t : ShelfState} {h h' : SinkState} {l l' : List ℕ} {handed : List Shown → Type 0} (plan : ReadPlan) (files : List (String Global)) (i : ℕ) (ended : Status) → plan.names ≡ texts files → length files ≤ i
+pub reads_all : {s t : ShelfState} {h h' : SinkState} {l l' : List ℕ} {handed : List Shown → Type 0} (plan : ReadPlan) (files : List (String Global)) (i : ℕ) (ended : Status) → StopsAll plan → plan.names ≡ texts files → length files ≤ i
     → ReadsTo plan handed (take i (texts files)) ended s t (written h.held l) (written h'.held l') → KeepsSink {T = Unit} h h' (Ok tt) → DoesFiles plan handed s t h h' l l' (Ok ended)
-reads_all {s} {t} {h} {h'} {l} {l'} {handed = handed} plan files i ended named past to sink =
+reads_all {s} {t} {h} {h'} {l} {l'} {handed = handed} plan files i ended stops named past to sink =
     let count = names_count files in
     let whole : take i (texts files) ≡ plan.names = take_all i (texts files) (omega (arith, count, past)) ∙ sym named in
     let keeps = subst (OnlyReads s t) whole to.keeps in
     record {
       tells = λ all told still.
           let read = subst (λ (ns : List (List ℕ)). IsReadTo plan handed all s.reading_faults t.reading_faults ns ended (written h.held l) (written h'.held l')) whole (to.tells all told still) in
-          record { came = plan.names; ended = ended; yields = read.yields; outcome = read.order; whole = λ memory write. (refl, read.gives, keeps.asked); part = part_whole read.yields read.gives };
+          tells_plan plan all _ stops (record { came = plan.names; ended = ended; yields = read.yields; outcome = read.order; whole = λ memory write. (refl, read.gives, keeps.asked); part = part_whole read.yields read.gives });
       count = length plan.names;
       within = omega arith;
       all = λ done. refl;
@@ -249,3 +252,8 @@ does_deaf {h = h} {h'} {l} {l'} {result = result} {handed} none does = record {
       → IfOk x (λ s. s ≢ status.Memory → s ≢ status.WriteFault → (s ≡ ended) × Gives handed (written h.held l) (written h'.held l') yields)
   whole_at (Ok s) ended yields whole = λ memory write. let w = whole memory write in (w.0, gives_as nothing yields w.1)
   whole_at (Err e) ended yields whole = tt
+
+-- a file whose reading a read fault stopped is not done
+pub stops_all : (reading : Reading) (names : List (List ℕ)) → StopsAll (plan_for reading names)
+stops_all (Check limit) names name records = refl
+stops_all (Listen asked) names name records = refl

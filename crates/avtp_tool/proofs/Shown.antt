@@ -20,6 +20,7 @@ use Rattle.run_report.specs.Status.{status_of}
 use Rattle.run_report.proofs.DoesFile.{IsReadAndTold}
 use Rattle.run_report.proofs.Outcomes.{tells_end}
 use Rattle.run_report.specs.Reading.{file_yield}
+use Rattle.run_report.specs.Halt.{no_halt}
 use Rattle.run_report.proofs.Yields.{part_text}
 use Rattle.avtp_tool.specs.Show.{show_line, end_line, show_report}
 use Rattle.avtp_tool.specs.Record.{record_content}
@@ -59,5 +60,5 @@ show_told limit bytes fault printed before p ends = record {
   tells = tells_end (of_each show_line p.records) [] (refl, ap (λ (k : ℕ). says (of_each show_line p.records ++ end_line limit k printed.end)) p.counted) p.lines refl ends;
 }
 
-pub some_lines : (limit : ℕ) (bytes : List ℕ) (before now : Option (List ℕ)) → AppendsPrefix before now (of_each show_line (records_in (take limit bytes))) → GivesPart HandsNothing before now (file_yield (show_report limit) limit (Some bytes))
+pub some_lines : (limit : ℕ) (bytes : List ℕ) (before now : Option (List ℕ)) → AppendsPrefix before now (of_each show_line (records_in (take limit bytes))) → GivesPart HandsNothing before now (file_yield (show_report limit) limit (Some bytes) no_halt)
 some_lines limit bytes before now prefix = part_text refl _ (prefix_before before now _ (end_line limit (length (records_in (take limit bytes))) (end_of limit bytes)) prefix)

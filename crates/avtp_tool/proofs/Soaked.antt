@@ -1,5 +1,5 @@
 -- The run of `soak`, which neither reads nor writes a file.
-use Rattle.std.proofs.Common.{inl, ℕ, List, Result, Ok, Err, refl, ◌≡◌, ◌≢◌, ◌⊎◌, inr, [], sym, subst, Option, false, ap, arith}
+use Rattle.std.proofs.Common.{None, inl, ℕ, List, Result, Ok, Err, refl, ◌≡◌, ◌≢◌, ◌⊎◌, inr, [], sym, subst, Option, false, ap, arith}
 use Rattle.std.specs.Prelude.{IfOk}
 use Rattle.std.proofs.lemmas.List.{append-nil}
 use Rattle.avtp_base.specs.declared.failed.Failed.{Failed}
@@ -8,6 +8,8 @@ use Rattle.avtp_text.specs.Written.{written}
 use Rattle.avtp_base.specs.Told.{Appends}
 use Rattle.avtp_words.specs.Grammar.{Request, soak}
 use Rattle.avtp_base.proofs.Files.{KeepsFiles-refl}
+use Rattle.run_report.specs.Halt.{no_halt}
+use Rattle.run_report.proofs.RunReports.{same_run}
 use Rattle.run_report.specs.declared.status.Status.{Status}
 use Rattle.run_report.specs.Outcome.{EndsWith}
 use Rattle.run_report.specs.Yield.{says as only_text, Gives, HandsNothing}
@@ -60,7 +62,7 @@ soak_runs {s} {h} {h'} {l} {l'} {result} packets other same told = subst (λ (q 
     came = [];
     ended = told.tells.ended;
     yields = only_text told.tells.yields;
-    outcome = (refl, (told.tells.outcome.0, ap only_text told.tells.outcome.1), refl);
+    outcome = (no_halt, refl, same_run [] [] told.tells.ended _ (only_text told.tells.yields) _ None None refl told.tells.outcome.0 (ap only_text told.tells.outcome.1) refl);
     whole = with_names s (written h.held l) (written h'.held l') told.tells.yields told.tells.ended result told.tells.whole;
     part = part_text refl (only_text told.tells.yields) told.tells.part;
   });

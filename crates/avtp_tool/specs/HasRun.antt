@@ -15,13 +15,14 @@ use Rattle.avtp_text.specs.Notices.{words_line}
 use Rattle.run_report.specs.Listener.{plan_of}
 use Rattle.run_report.specs.declared.status.Status.{Status}
 use Rattle.run_report.specs.Made.{MakesOutput, MakesPart, KeepsFilesBut, KeepsSlotsFor}
-use Rattle.run_report.specs.Yield.{Yield}
+use Rattle.run_report.specs.Halt.{Halt, no_halt}
+use Rattle.run_report.specs.RunReport.{RunReport}
 use Rattle.run_report.specs.Outcome.{IsOneMissing, AsksFor, is_through}
 use Rattle.run_report.specs.declared.status.Status.TheVariants as status
 use Rattle.listen_command.specs.Listen.{HasHeadline}
 use Rattle.agree_command.specs.Agree.{HasAgreement}
 use Rattle.gateway_command.specs.Gateway.{KeepsInput}
-use Rattle.avtp_tool.specs.Run.{came_for, made_for, Outcome, status_for, yield_for, is_listening, names_of}
+use Rattle.avtp_tool.specs.Run.{CanEndWith, report_for, is_listening, names_of}
 
 -- ---- what is printed and given to devices
 
@@ -38,42 +39,41 @@ pub record ComparesTalker (request : Request) (files : Files) (asked : Agreeing)
   pub hears_a : HearsTalker shift p (plan_of asked.listener) (records_in (take asked.listener.limit x))
   pub hears_b : HearsTalker shift p (plan_of asked.listener) (records_in (take asked.listener.limit y))
 
+-- A run did what `report` says, or a part of it if memory ran out or a write failed.
+pub record Follows (report : RunReport) (request : Request) (handed : List Shown → Type 0) (shelf shelf' : ShelfState) (out out' : SinkState) (ended : Status) : Type 0 where
+  -- The following holds unless memory ran out or a write failed. The run ended with the report's status. All of the text
+  -- was written. All items were given to the devices. The shelf was asked for exactly the report's names. The output
+  -- file has the capture that the report says is made, if any.
+  pub whole : ended ≢ status.Memory → ended ≢ status.WriteFault →
+      (ended ≡ report.ended) × Appends out.held out'.held report.yields.text × handed report.yields.items × Asks report.came shelf shelf'
+      × MakesOutput (output_of request) report.made shelf.files shelf'.files
+  -- In any case, a prefix of the text was written, and a prefix of the items was given to the devices. The output file
+  -- is unchanged or has a prefix of the capture that the report says is made.
+  pub written : AppendsPrefix out.held out'.held report.yields.text
+  pub items : List Shown
+  pub first : IsPrefix items report.yields.items
+  pub given : handed items
+  pub begun : MakesPart (output_of request) report.made shelf.files shelf'.files
+
 -- What a run of the request over these files printed, gave to devices, asked for and made.
 pub record Reports (request : Request) (files : Files) (failed : Bool) (handed : List Shown → Type 0) (shelf shelf' : ShelfState)
     (out out' : SinkState) (ended : Status) : Type 0 where
-  -- the names of the files that the run reached, the status of the run's outcome, and what the run yields
-  pub came : List (List ℕ)
-  pub reached : Status
-  pub yields : Yield
-  -- the capture that the run makes, if any
-  pub made : Option (List ℕ)
-  pub outcome : Outcome request files (Rose shelf.reading_faults shelf'.reading_faults) failed came reached yields made
-  -- The following holds unless memory ran out or a write failed. The run ended with the status `reached`. All of the
-  -- text was written. All items were given to the devices. The shelf was asked for exactly the names `came`. The output
-  -- file has the capture that the run makes, if any.
-  pub whole : ended ≢ status.Memory → ended ≢ status.WriteFault →
-      (ended ≡ reached) × Appends out.held out'.held yields.text × handed yields.items × Asks came shelf shelf' × MakesOutput (output_of request) made shelf.files shelf'.files
-  -- In any case, a prefix of the text was written, and a prefix of the items was given to the devices. The output file
-  -- is unchanged or has a prefix of the capture that the run makes.
-  pub written : AppendsPrefix out.held out'.held yields.text
-  pub items : List Shown
-  pub first : IsPrefix items yields.items
-  pub given : handed items
-  pub begun : MakesPart (output_of request) made shelf.files shelf'.files
-  -- If no read fault occurred, the request, the files and `failed` alone determine `came`, `reached`, `yields` and
-  -- `made`.
-  pub complete : ReadsAll shelf shelf' →
-      (came ≡ came_for request files) × (reached ≡ status_for request files failed) × (yields ≡ yield_for request files failed) × (made ≡ made_for request files)
+  -- the read fault that ended the run, if one did
+  pub halt : Halt
+  pub possible : CanEndWith request files (Rose shelf.reading_faults shelf'.reading_faults) halt
+  pub complete : ReadsAll shelf shelf' → halt ≡ no_halt
+  -- The request, the files, `failed` and the read fault alone determine what the run did.
+  pub did : Follows (report_for request files failed halt) request handed shelf shelf' out out' ended
   -- Take a file that `listen` reached. If a talker that keeps the rules sent the records that were read, the file
   -- yields what the headline says of these records. Different files can have different talkers.
-  pub headline : (asked : Listening) (earlier later : List (List ℕ)) (name bytes : List ℕ) → request ≡ listen asked → came ≡ earlier ++ name ∷ later →
-      files name ≡ Some bytes → HasHeadline asked files (Rose shelf.reading_faults shelf'.reading_faults) earlier name bytes yields
+  pub headline : (asked : Listening) (earlier later : List (List ℕ)) (name bytes : List ℕ) → request ≡ listen asked → (report_for request files failed halt).came ≡ earlier ++ name ∷ later →
+      files name ≡ Some bytes → HasHeadline asked files (Rose shelf.reading_faults shelf'.reading_faults) earlier name bytes (report_for request files failed halt).yields
   -- what `agree` prints of two captures of one talker that keeps the rules, if no read fault occurred
   pub agreement : ReadsAll shelf shelf' → (asked : Agreeing) (x y : List ℕ) (shift : ℤ) (p : PacketJournal) →
-      ComparesTalker request files asked x y shift p → HasAgreement asked p x y yields.text
+      ComparesTalker request files asked x y shift p → HasAgreement asked p x y (report_for request files failed halt).yields.text
   -- what `gateway` keeps of its input in the capture that it makes
-  pub kept : (asked : Turning) (capture : List ℕ) → request ≡ gateway asked → made ≡ Some capture →
-      KeepsInput asked files (Rose shelf.reading_faults shelf'.reading_faults) reached capture
+  pub kept : (asked : Turning) (capture : List ℕ) → request ≡ gateway asked → (report_for request files failed halt).made ≡ Some capture →
+      KeepsInput asked files (Rose shelf.reading_faults shelf'.reading_faults) (report_for request files failed halt).ended capture
 
 -- ---- why a run ended with a fault
 

@@ -29,6 +29,7 @@ use Rattle.run_report.proofs.DoesFile.{IsReadAndTold}
 use Rattle.run_report.proofs.Outcomes.{tells_end, TellsFault, counts_by}
 use Rattle.run_report.proofs.Yields.{part_text}
 use Rattle.run_report.specs.Reading.{file_yield, IsReadingStatus}
+use Rattle.run_report.specs.Halt.{no_halt}
 use Rattle.run_report.proofs.Leaving.{own_as, own_ended}
 use Rattle.run_report.specs.declared.status.Status.TheVariants as status
 use Rattle.check_command.specs.Check.{joined_lines, checked_record, noted, notes_of, check_lines, found_lines, check_report, check_status, total_line}
@@ -133,7 +134,7 @@ check_told limit name bytes fault total before c ends = record {
   tells = tells_end (text_of name c.records) [] (ap (λ (k : ℕ). check_status k total.end) c.found, rw (c.frames, c.streams, c.found) refl) c.lines refl ends;
 }
 
-pub some_lines : (limit : ℕ) (name bytes : List ℕ) (before now : Option (List ℕ)) → AppendsPrefix before now (text_of name (records_in (take limit bytes))) → GivesPart HandsNothing before now (file_yield (check_report limit name) limit (Some bytes))
+pub some_lines : (limit : ℕ) (name bytes : List ℕ) (before now : Option (List ℕ)) → AppendsPrefix before now (text_of name (records_in (take limit bytes))) → GivesPart HandsNothing before now (file_yield (check_report limit name) limit (Some bytes) no_halt)
 some_lines limit name bytes before now prefix = part_text refl _ (prefix_before before now (text_of name (records_in (take limit bytes))) _ prefix)
 
 -- if a capture was read to its end, the status is `Done` or `Findings`

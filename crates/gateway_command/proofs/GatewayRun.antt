@@ -1,5 +1,5 @@
 -- The outcomes of `gateway`.
-use Rattle.std.proofs.Common.{◌≡◌, ℕ, List, take, Some, subst, Option, None, refl, sym, inl, ◌≢◌, [], ◌∷◌, inr, ◌∙◌, ◌++◌, ap, Bool, true, false, length, arith, ◌^◌, ◌<◌}
+use Rattle.std.proofs.Common.{zero, suc, ◌≡◌, ℕ, List, take, Some, subst, Option, None, refl, sym, inl, ◌≢◌, [], ◌∷◌, inr, ◌∙◌, ◌++◌, ap, Bool, true, false, length, arith, ◌^◌, ◌<◌}
 use Rattle.std.specs.Prelude.{◌==◌, if◌then◌else◌, IfSome}
 use Rattle.std.proofs.lemmas.Bool.{eqb-true}
 use Rattle.std.specs.List.{AllByRecursion}
@@ -24,80 +24,60 @@ use Rattle.am824_gateway.proofs.Scanned.{scanned_fits}
 use Rattle.gateway_laws.proofs.Kept.{all_kept}
 use Rattle.capture_io.specs.declared.end.End.TheVariants as end
 use Rattle.run_report.specs.declared.status.Status.{Status}
-use Rattle.run_report.specs.Endings.{side_line}
+use Rattle.run_report.specs.Endings.{IsUnopened, side_line}
 use Rattle.run_report.specs.Status.{status_of}
-use Rattle.run_report.proofs.OneFile.{by_end}
+use Rattle.run_report.proofs.OneFile.{stopped_at, stops_here}
+use Rattle.capture_io.proofs.Formats.{short_certain}
+use Rattle.avtp_text.specs.Notices.{read_fault_line}
+use Rattle.run_report.specs.Halt.{Halt, CanHalt, CanStop, no_halt, not_opened, stopped_after}
+use Rattle.run_report.specs.RunReport.{ends_unread}
+use Rattle.run_report.specs.Yield.{says}
 use Rattle.run_report.specs.Listener.{plan_of}
 use Rattle.run_report.specs.declared.status.Status.TheVariants as status
-use Rattle.gateway_command.specs.Gateway.{GatewayOutcome, HearsInput, batches_by, came_by, cut, ended_by, fault_in, faulty, made_by, records_of, shape_asked, text_by, turned, gateway_came, gateway_ended, gateway_made, gateway_report, unopened, skipped_at, skips_after, turned_status, KeepsInput, format_of, skips_in, turned_capture}
+use Rattle.gateway_command.specs.Gateway.{CanTurn, GatewayYields, again_end, batches_by, fault_in, fault_line, gateway_by, gateway_report, read_again, records_of, shape_asked, turned_by, skipped_at, skips_after, turned_status, KeepsInput, format_of, skips_in, turned_capture}
 use Rattle.gateway_command.proofs.Silent.{silent}
 
--- ---- if no read fault occurs
+-- ---- the possible outcomes
 
-never_fault : (limit : ℕ) (bytes : List ℕ) → end_of limit bytes ≡ end.ReadFault → ⊥
-never_fault limit bytes e = (subst (λ (h : End). EndsAt limit (Some bytes) ⊥ h (take limit bytes)) e (ends_here limit bytes ⊥)).0
+unread_is : (asked : Turning) (told : Option (List ℕ)) → gateway_report asked told (not_opened zero) ≡ ends_unread (asked.input ∷ [])
+unread_is asked None = refl
+unread_is asked (Some bytes) = refl
 
--- the outcome of a run without read faults, given the first record that cannot be converted, if any, and how the scan
--- ended
-here_by : (asked : Turning) (files : Files) (fault : Type 0) (bytes : List ℕ) (at : Option FaultAt) (how : End) → files asked.input ≡ Some bytes → fault_in asked (records_of asked bytes) ≡ at → end_of asked.listener.limit bytes ≡ how
-    → GatewayOutcome asked files fault (came_by asked at how) (ended_by asked (records_of asked bytes) at how) (text_by asked (records_of asked bytes) at how) (made_by asked (records_of asked bytes) at how)
-here_by asked files fault bytes (Some at) how is found ends = faulty bytes at is found refl refl refl refl
-here_by asked files fault bytes None end.Whole is none ends =
-    let prefix : List ℕ = take asked.listener.limit bytes in
-    let hears : HearsInput asked files fault (shape_asked asked (records_of asked bytes)) (batches_by asked (records_in prefix) end.Whole) end.Whole = record { bytes = bytes; prefix = prefix; told = is; can = record { whole = ends; none = none }; ends = (sym ends, refl); shape_is = refl; presented = refl } in
-    turned (shape_asked asked (records_of asked bytes)) (batches_by asked (records_in prefix) end.Whole) end.Whole hears refl refl refl refl
-here_by asked files fault bytes None (end.Refused refusal) is none ends = cut bytes (take asked.listener.limit bytes) (end.Refused refusal) is (sym ends, refl) (λ e. cc) none refl refl refl refl
-here_by asked files fault bytes None end.ReadFault is none ends = absurd (never_fault asked.listener.limit bytes ends)
-here_by asked files fault bytes None end.Limit is none ends = cut bytes (take asked.listener.limit bytes) end.Limit is (sym ends, refl) (λ e. cc) none refl refl refl refl
+-- IN was not opened
+pub unopened : (asked : Turning) (files : Files) (fault : Type 0) → IsUnopened files fault asked.input → GatewayYields asked files fault (asked.input ∷ []) status.ReadFault (says read_fault_line) None
+unopened asked files fault (inl is) = (no_halt, tt, rw is refl)
+unopened asked files fault (inr f) = (not_opened zero, f, sym (unread_is asked (files asked.input)))
 
-pub gateway_here : (asked : Turning) (files : Files) (fault : Type 0)
-    → GatewayOutcome asked files fault (gateway_came asked (files asked.input)) (gateway_ended asked (files asked.input)) (gateway_report asked (files asked.input)) (gateway_made asked (files asked.input))
-gateway_here asked files fault = at (files asked.input) refl where
-  at : (told : Option (List ℕ)) → files asked.input ≡ told → GatewayOutcome asked files fault (gateway_came asked told) (gateway_ended asked told) (gateway_report asked told) (gateway_made asked told)
-  at None is = unopened (inl is) refl refl refl refl
-  at (Some bytes) is = here_by asked files fault bytes (fault_in asked (records_of asked bytes)) (end_of asked.listener.limit bytes) is refl refl
+-- a record of IN cannot be converted
+pub faulty : (asked : Turning) (files : Files) (fault : Type 0) (bytes : List ℕ) (at : FaultAt) → files asked.input ≡ Some bytes → fault_in asked (records_of asked bytes) ≡ Some at
+    → GatewayYields asked files fault (asked.input ∷ []) status.TalkInput (says (fault_line at)) None
+faulty asked files fault bytes at is found = (no_halt, tt, rw (is, found) refl)
 
--- ---- any other outcome needs a read fault
+-- the scan was cut short, and each scanned record can be converted
+pub cut : (asked : Turning) (files : Files) (fault : Type 0) (bytes prefix : List ℕ) (how : End) → files asked.input ≡ Some bytes → EndsAt asked.listener.limit (Some bytes) fault how prefix → how ≢ end.Whole → fault_in asked (records_in prefix) ≡ None
+    → GatewayYields asked files fault (asked.input ∷ []) (status_of how) (says (side_line asked.listener.limit how)) None
+cut asked files fault bytes prefix end.Whole is ends other clean = absurd (other refl)
+cut asked files fault bytes prefix (end.Refused refusal) is ends other clean =
+    let good : fault_in asked (records_of asked bytes) ≡ None = subst (λ (p : List ℕ). fault_in asked (records_in p) ≡ None) ends.1 clean in
+    (no_halt, tt, rw (is, good, sym ends.0) refl)
+cut asked files fault bytes prefix end.Limit is ends other clean =
+    let good : fault_in asked (records_of asked bytes) ≡ None = subst (λ (p : List ℕ). fault_in asked (records_in p) ≡ None) ends.1 clean in
+    (no_halt, tt, rw (is, good, sym ends.0) refl)
+cut asked files fault bytes prefix end.ReadFault is ends other clean =
+    let at = stopped_at asked.listener.limit bytes prefix fault ends in
+    let good : fault_in asked (records_in (take (length prefix) bytes)) ≡ None = subst (λ (p : List ℕ). fault_in asked (records_in p) ≡ None) at.0 clean in
+    (stopped_after zero (length prefix), (at.1, rw is at.2), rw (is, good) refl)
 
--- the outcome of a run without read faults, given the bytes of IN, or `None` if IN is missing
-abbrev pub TurnsOut : Turning → List (List ℕ) → Status → List ℕ → Option (List ℕ) → Option (List ℕ) → Type 0
-TurnsOut asked came ended text made told = (came ≡ gateway_came asked told) × (ended ≡ gateway_ended asked told) × (text ≡ gateway_report asked told) × (made ≡ gateway_made asked told)
-
--- the outcome of a run without read faults, given the first record that cannot be converted, if any, and how the scan
--- ended
-abbrev pub TurnsBy : Turning → List Record → List (List ℕ) → Status → List ℕ → Option (List ℕ) → Option FaultAt → End → Type 0
-TurnsBy asked records came ended text made at how = (came ≡ came_by asked at how) × (ended ≡ ended_by asked records at how) × (text ≡ text_by asked records at how) × (made ≡ made_by asked records at how)
-
-turns_told : (asked : Turning) {came : List (List ℕ)} {ended : Status} {text : List ℕ} {made : Option (List ℕ)} (files : Files) (bytes : List ℕ) (at : Option FaultAt) (how : End)
-    → files asked.input ≡ Some bytes → fault_in asked (records_of asked bytes) ≡ at → how ≡ end_of asked.listener.limit bytes → TurnsBy asked (records_of asked bytes) came ended text made at how → TurnsOut asked came ended text made (files asked.input)
-turns_told asked {came} {ended} {text} {made} files bytes at how is found ends by =
-    subst (TurnsOut asked came ended text made) (sym is)
-    (subst (λ (a : Option FaultAt). TurnsBy asked (records_of asked bytes) came ended text made a (end_of asked.listener.limit bytes)) (sym found)
-    (subst (TurnsBy asked (records_of asked bytes) came ended text made at) ends by))
-
-cut_by : (asked : Turning) (records : List Record) (came : List (List ℕ)) (ended : Status) (text : List ℕ) (made : Option (List ℕ)) (how : End) → how ≢ end.Whole → came ≡ asked.input ∷ [] → ended ≡ status_of how → text ≡ side_line asked.listener.limit how → made ≡ None
-    → TurnsBy asked records came ended text made None how
-cut_by asked records came ended text made end.Whole other c e t m = absurd (other refl)
-cut_by asked records came ended text made (end.Refused refusal) other c e t m = (c, e, t, m)
-cut_by asked records came ended text made end.ReadFault other c e t m = (c, e, t, m)
-cut_by asked records came ended text made end.Limit other c e t m = (c, e, t, m)
-
-pub gateway_complete : {asked : Turning} {files : Files} {fault : Type 0} {came : List (List ℕ)} {ended : Status} {text : List ℕ} {made : Option (List ℕ)} → (fault → ⊥) → GatewayOutcome asked files fault came ended text made
-    → TurnsOut asked came ended text made (files asked.input)
-gateway_complete {asked} {files} {fault} {came} {ended} {text} {made} none (unopened (inl is) c e t m) = subst (TurnsOut asked came ended text made) (sym is) (c, e, t, m)
-gateway_complete none (unopened (inr f) c e t m) = absurd (none f)
-gateway_complete {asked} {files} none (faulty bytes at is found c e t m) = turns_told asked files bytes (Some at) (end_of asked.listener.limit bytes) is found refl (c, e, t, m)
-gateway_complete {asked} {files} {fault} {came} {ended} {text} {made} none (cut bytes prefix how is ends other clean c e t m) =
-    let at = by_end asked.listener.limit bytes prefix fault how none ends in
-    turns_told asked files bytes None how is (subst (λ (p : List ℕ). fault_in asked (records_in p) ≡ None) at.1 clean) at.0 (cut_by asked (records_of asked bytes) came ended text made how other c e t m)
-gateway_complete {asked} {files} {fault} {came} {ended} {text} {made} none (turned shape batches how hears c e t m) =
-    let bytes = hears.bytes in
-    let at = by_end asked.listener.limit bytes hears.prefix fault how none hears.ends in
-    let whole : how ≡ end.Whole = at.0 ∙ hears.can.whole in
-    let all : batches ≡ batches_by asked (records_of asked bytes) end.Whole = hears.presented ∙ rw (whole, at.1) refl in
-    let by : TurnsBy asked (records_of asked bytes) came ended text made None end.Whole =
-    (c, e ∙ rw (whole, all, hears.shape_is) refl, t ∙ rw (whole, all, hears.shape_is) refl, m ∙ rw (all, hears.shape_is) refl) in
-    turns_told asked files bytes None end.Whole hears.told hears.can.none (sym hears.can.whole) by
+-- IN was scanned, OUT was made, and IN was read again
+pub turned : (asked : Turning) (files : Files) (fault : Type 0) (bytes prefix : List ℕ) (how : End) → files asked.input ≡ Some bytes → CanTurn asked bytes → EndsAt asked.listener.limit (Some bytes) fault how prefix
+    → (halt : Halt) × CanHalt asked.listener.limit (asked.input ∷ asked.input ∷ []) files fault halt × (turned_by asked (shape_asked asked (records_of asked bytes)) (batches_by asked (records_in prefix) how) how ≡ gateway_report asked (files asked.input) halt)
+turned asked files fault bytes prefix end.Whole is can ends = (no_halt, tt, rw (is, can.none, can.whole, ends.1) refl)
+turned asked files fault bytes prefix (end.Refused refusal) is can ends = absurd (let e : end.Refused refusal ≡ end.Whole = ends.0 ∙ can.whole in cc)
+turned asked files fault bytes prefix end.Limit is can ends = absurd (let e : end.Limit ≡ end.Whole = ends.0 ∙ can.whole in cc)
+turned asked files fault bytes prefix end.ReadFault is can ends =
+    let at = stopped_at asked.listener.limit bytes prefix fault ends in
+    (stopped_after (suc zero) (length prefix), (at.1, rw is at.2),
+      rw (is, can.none, can.whole) (ap (λ (p : List ℕ). turned_by asked (shape_asked asked (records_of asked bytes)) (batches_by asked (records_in p) end.ReadFault) end.ReadFault) at.0))
 
 -- ---- what the capture keeps
 
@@ -133,22 +113,52 @@ begin_in_time asked records (end.Refused refusal) = shown_in_time (plan_of asked
 begin_in_time asked records end.ReadFault = due_in_time (plan_of asked.listener) records
 begin_in_time asked records end.Limit = due_in_time (plan_of asked.listener) records
 
-pub keeps_input : {asked : Turning} {files : Files} {fault : Type 0} {came : List (List ℕ)} {ended : Status} {text : List ℕ} {made : Option (List ℕ)} (capture : List ℕ) → asked.id < 2 ^ 64 → GatewayOutcome asked files fault came ended text made → made ≡ Some capture
-    → KeepsInput asked files fault ended capture
-keeps_input capture small (unopened is c e t m) some = absurd cc
-keeps_input capture small (faulty bytes at is found c e t m) some = absurd cc
-keeps_input capture small (cut bytes prefix how is ends other clean c e t m) some = absurd cc
-keeps_input {asked} {files} {fault} {ended = ended} capture small (turned shape batches how hears c e t m) some =
+-- what is kept, if IN can be converted and was read again
+keeps_turned : (asked : Turning) (files : Files) (fault : Type 0) (bytes prefix capture : List ℕ) (how : End) → asked.id < 2 ^ 64 → files asked.input ≡ Some bytes → CanTurn asked bytes → EndsAt asked.listener.limit (Some bytes) fault how prefix
+    → let made = turned_by asked (shape_asked asked (records_of asked bytes)) (batches_by asked (records_in prefix) how) how in made.made ≡ Some capture → KeepsInput asked files fault made.ended capture
+keeps_turned asked files fault bytes prefix capture how small told can ends some =
+    let shape = shape_asked asked (records_of asked bytes) in
+    let batches = batches_by asked (records_in prefix) how in
     let is : turned_capture asked shape batches ≡ capture = cc in
-    let fits : IfSome shape IsShape = subst (λ (s : Option Shape). IfSome s IsShape) (sym hears.shape_is) (scanned_fits (format_of asked.to) asked.listener.stream (records_of asked hears.bytes) hears.can.none) in
-    let begins : AllByRecursion BeginsInTime batches = subst (AllByRecursion BeginsInTime) (sym hears.presented) (begin_in_time asked (records_in hears.prefix) how) in
-    let kept : Keeps (format_of asked.to) shape asked.id batches capture = subst (Keeps (format_of asked.to) shape asked.id batches) is (all_kept (format_of asked.to) shape asked.id batches fits small begins) in
+    let fits : IfSome shape IsShape = scanned_fits (format_of asked.to) asked.listener.stream (records_of asked bytes) can.none in
+    let kept : Keeps (format_of asked.to) shape asked.id batches capture = subst (Keeps (format_of asked.to) shape asked.id batches) is (all_kept (format_of asked.to) shape asked.id batches fits small (begin_in_time asked (records_in prefix) how)) in
     record {
       shape = shape;
       batches = batches;
       how = how;
-      heard = hears;
+      heard = record { bytes = bytes; prefix = prefix; told = told; can = can; ends = ends; shape_is = refl; presented = refl };
       keeps = kept;
       silent = silent (whole_records capture) kept.checked;
-      all = λ done. skips_none (format_of asked.to) shape batches (done_none (skips_in asked shape batches) how (sym e ∙ done));
+      all = λ done. skips_none (format_of asked.to) shape batches (done_none (skips_in asked shape batches) how done);
     }
+
+keeps_by : (asked : Turning) (files : Files) (fault : Type 0) (bytes capture : List ℕ) (halt : Halt) (at : Option FaultAt) (how : End) → asked.id < 2 ^ 64 → files asked.input ≡ Some bytes → fault_in asked (records_of asked bytes) ≡ at → end_of asked.listener.limit bytes ≡ how
+    → (how ≡ end.Whole → EndsAt asked.listener.limit (Some bytes) fault (again_end halt) (read_again asked bytes halt)) → (gateway_by asked bytes halt at how).made ≡ Some capture → KeepsInput asked files fault (gateway_by asked bytes halt at how).ended capture
+keeps_by asked files fault bytes capture halt (Some at) how small told found ends again some = absurd cc
+keeps_by asked files fault bytes capture halt None end.Whole small told none ends again some = keeps_turned asked files fault bytes (read_again asked bytes halt) capture (again_end halt) small told (record { whole = ends; none = none }) (again refl) some
+keeps_by asked files fault bytes capture halt None (end.Refused refusal) small told none ends again some = absurd cc
+keeps_by asked files fault bytes capture halt None end.ReadFault small told none ends again some = absurd cc
+keeps_by asked files fault bytes capture halt None end.Limit small told none ends again some = absurd cc
+
+none_made : (asked : Turning) (bytes capture : List ℕ) (halt : Halt) (at : Option FaultAt) → (gateway_by asked bytes halt at end.ReadFault).made ≡ Some capture → ⊥
+none_made asked bytes capture halt None some = absurd cc
+none_made asked bytes capture halt (Some at) some = absurd cc
+
+keeps_told : (asked : Turning) (files : Files) (fault : Type 0) (capture : List ℕ) (halt : Halt) (told : Option (List ℕ)) → asked.id < 2 ^ 64 → files asked.input ≡ told → CanHalt asked.listener.limit (asked.input ∷ asked.input ∷ []) files fault halt
+    → (gateway_report asked told halt).made ≡ Some capture → KeepsInput asked files fault (gateway_report asked told halt).ended capture
+keeps_told asked files fault capture halt None small is can some = absurd cc
+keeps_told asked files fault capture no_halt (Some bytes) small is can some =
+    keeps_by asked files fault bytes capture no_halt (fault_in asked (records_of asked bytes)) (end_of asked.listener.limit bytes) small is refl refl (λ whole. (sym whole, refl)) some
+keeps_told asked files fault capture (not_opened zero) (Some bytes) small is can some = absurd cc
+keeps_told asked files fault capture (not_opened (suc zero)) (Some bytes) small is can some =
+    keeps_by asked files fault bytes capture (not_opened 1) (fault_in asked (records_of asked bytes)) (end_of asked.listener.limit bytes) small is refl refl (λ whole. (can, (bytes, refl, omega arith, short_certain [] (omega arith)))) some
+keeps_told asked files fault capture (not_opened (suc (suc place))) (Some bytes) small is can some = absurd can
+keeps_told asked files fault capture (stopped_after zero after) (Some bytes) small is can some = absurd (none_made asked bytes capture (stopped_after zero after) (fault_in asked (records_in (take after bytes))) some)
+keeps_told asked files fault capture (stopped_after (suc zero) after) (Some bytes) small is can some =
+    keeps_by asked files fault bytes capture (stopped_after 1 after) (fault_in asked (records_of asked bytes)) (end_of asked.listener.limit bytes) small is refl refl
+    (λ whole. stops_here asked.listener.limit bytes after fault can.0 (subst (λ (o : Option (List ℕ)). CanStop asked.listener.limit o after) is can.1)) some
+keeps_told asked files fault capture (stopped_after (suc (suc place)) after) (Some bytes) small is can some = absurd can
+
+pub keeps_input : (asked : Turning) (files : Files) (fault : Type 0) (halt : Halt) (capture : List ℕ) → asked.id < 2 ^ 64 → CanHalt asked.listener.limit (asked.input ∷ asked.input ∷ []) files fault halt
+    → (gateway_report asked (files asked.input) halt).made ≡ Some capture → KeepsInput asked files fault (gateway_report asked (files asked.input) halt).ended capture
+keeps_input asked files fault halt capture small can some = keeps_told asked files fault capture halt (files asked.input) small refl can some

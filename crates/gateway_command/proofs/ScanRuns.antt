@@ -32,9 +32,11 @@ use Rattle.run_report.specs.Made.{MakesOutput, CountsWriting}
 use Rattle.run_report.proofs.Yields.{part_none, part_text}
 use Rattle.run_report.proofs.Files.{missing_before, shown_still}
 use Rattle.run_report.specs.declared.status.Status.TheVariants as status
-use Rattle.gateway_command.specs.Gateway.{gateway_task, GatewayYields, GatewayOutcome, fault_line, faulty, cut, gateway_came, gateway_ended, gateway_made, gateway_report, unopened, CanTurn, HearsInput, batches_by, records_of, shape_asked, turned}
+use Rattle.gateway_command.specs.Gateway.{gateway_task, GatewayYields, fault_line, gateway_report, CanTurn, batches_by, records_of, shape_asked, turned_by}
 use Rattle.gateway_command.specs.state.Scanning.{ScansFile}
-use Rattle.gateway_command.proofs.GatewayRun.{gateway_here}
+use Rattle.gateway_command.proofs.GatewayRun.{cut, faulty, turned, unopened}
+use Rattle.run_report.proofs.RunReports.{same_run}
+use Rattle.run_report.specs.Halt.{no_halt}
 use Rattle.gateway_command.specs.declared.scanning.Scanned.{Scanned}
 use Rattle.gateway_command.specs.state.Gateway.{TurnedOutcome, is_of_gateway, TurnsFile}
 use Rattle.gateway_command.specs.declared.scanning.Scanned.TheVariants as scanned
@@ -42,13 +44,13 @@ use Rattle.gateway_command.specs.declared.scanning.Scanned.TheVariants as scanne
 -- ---- IN was read, and nothing was made
 
 module _ {s t : ShelfState} {h h' : SinkState} {l l' : List ℕ} {result : Result Status Failed} (asked : Turning) (keeps : OnlyReads s t (asked.input ∷ [])) where
-  scan_runs : (ended : Status) (line : List ℕ) → EndsWith ended h h' l l' result line → ((all : Files) → s.files ≡ Some all → GatewayOutcome asked all (Rose s.reading_faults t.reading_faults) (asked.input ∷ []) ended line None)
+  scan_runs : (ended : Status) (line : List ℕ) → EndsWith ended h h' l l' result line → ((all : Files) → s.files ≡ Some all → GatewayYields asked all (Rose s.reading_faults t.reading_faults) (asked.input ∷ []) ended (says line) None)
       → CountsReading (asked.input ∷ []) s.files s.reading_faults t.reading_faults result → is_done ended ≡ false → ended ≢ status.WriteFault → ended ≢ status.Words → ended ≢ status.DeviceFault → Runs (gateway_task asked) HandsNothing false s t h h' l l' result
   scan_runs ended line ends outcome counts stops no_write no_words no_device = record {
     tells = λ all told some.
         tells_all keeps.files
         (run_asked (λ came e yields. GatewayYields asked all (Rose s.reading_faults t.reading_faults) came e yields None) (asked.input ∷ [])
-        (tells_last (yield_telling (written h.held l) (written h'.held l') line refl) (outcome all told, refl) ends) keeps.asked);
+        (tells_last (yield_telling (written h.held l) (written h'.held l') line refl) (outcome all told) ends) keeps.asked);
     files = kept_but s.files t.files asked.output keeps.files;
     slots = slots_but t.files s.slots t.slots asked.output keeps.slots;
     counts = counts;
@@ -64,7 +66,7 @@ pub faulty_runs : {s t : ShelfState} {h h' : SinkState} {l l' : List ℕ} {resul
     → EndsWith status.TalkInput h h' l l' result (fault_line (record { frame = frame; fault = why })) → Runs (gateway_task asked) HandsNothing false s t h h' l l' result
 faulty_runs {s} {t} {result = result} asked why frame scan ends =
     scan_runs asked scan.keeps status.TalkInput _ ends
-    (λ all told. let of = scan.told all told in faulty of.0 (record { frame = frame; fault = why }) of.1 of.2 refl refl refl refl)
+    (λ all told. let of = scan.told all told in faulty asked all _ of.0 (record { frame = frame; fault = why }) of.1 of.2)
     (counts_by status.TalkInput result scan.keeps.reading (inl (λ e. cc, scan.counted)) ends.status) refl (λ e. cc) (λ e. cc) (λ e. cc)
 
 never_end : (how : End) → (status_of how ≢ status.WriteFault) × (status_of how ≢ status.Words) × (status_of how ≢ status.DeviceFault)
@@ -86,7 +88,7 @@ cut_runs {s} {t} {result = result} asked how scan ends =
     let other = scan.cut how refl in
     let never = never_end how in
     scan_runs asked scan.keeps (status_of how) _ ends
-    (λ all told. let of = scan.told all told in cut of.0 of.2.0 how of.1 of.2.1 other of.2.2 refl refl refl refl)
+    (λ all told. let of = scan.told all told in cut asked all _ of.0 of.2.0 how of.1 of.2.1 other of.2.2)
     (counts_ended how result scan.keeps.reading scan.counted ends.status) (stops_end how other) never.0 never.1 never.2
 
 -- ---- IN was not opened
@@ -96,23 +98,24 @@ unopened_tells : {s t : ShelfState} {h h' : SinkState} {l l' : List ℕ} {result
     → TellsAll (gateway_task asked) all (Rose s.reading_faults t.reading_faults) false HandsNothing s t (written h.held l) (written h'.held l') result
 unopened_tells {s} {t} {h} {h'} {l} {l'} {result} asked open_fault.Memory all told keeps missing counted ends =
     let left = ends.memory refl in
-    let made : Option (List ℕ) = gateway_made asked (all asked.input) in
-    let yields = says (gateway_report asked (all asked.input)) in
+    let report = gateway_report asked (all asked.input) no_halt in
+    let made = report.made in
+    let yields = report.yields in
     let is_cut : IsCut result = subst IsCut (sym left.0) (inl refl) in
     record {
       made = made;
-      tells = run_cut (λ came e ys. GatewayYields asked all (Rose s.reading_faults t.reading_faults) came e ys made) (gateway_came asked (all asked.input)) (gateway_ended asked (all asked.input)) yields (gateway_here asked all _, refl) is_cut (part_none refl yields left.1);
+      tells = run_cut (λ came e ys. GatewayYields asked all (Rose s.reading_faults t.reading_faults) came e ys made) report.came report.ended yields (no_halt, tt, refl) is_cut (part_none refl yields left.1);
       whole = subst (λ (r : Result Status Failed). IfOk r (λ e. e ≢ status.Memory → e ≢ status.WriteFault → MakesOutput (Some asked.output) made s.files t.files)) (sym left.0) (λ memory write. absurd (memory refl));
       begun = part_kept (Some asked.output) made s.files t.files keeps.files;
     }
 unopened_tells {s} {t} {h} {h'} {l} {l'} asked open_fault.Missing all told keeps missing counted ends =
     tells_all keeps.files
     (run_asked (λ came e yields. GatewayYields asked all (Rose s.reading_faults t.reading_faults) came e yields None) (asked.input ∷ [])
-    (tells_last (yield_telling (written h.held l) (written h'.held l') read_fault_line refl) (unopened (inl (missing_none s.files asked.input all told (missing refl))) refl refl refl refl, refl) (ends.other (λ e. cc))) keeps.asked)
+    (tells_last (yield_telling (written h.held l) (written h'.held l') read_fault_line refl) (unopened asked all _ (inl (missing_none s.files asked.input all told (missing refl)))) (ends.other (λ e. cc))) keeps.asked)
 unopened_tells {s} {t} {h} {h'} {l} {l'} asked open_fault.Failed all told keeps missing counted ends =
     tells_all keeps.files
     (run_asked (λ came e yields. GatewayYields asked all (Rose s.reading_faults t.reading_faults) came e yields None) (asked.input ∷ [])
-    (tells_last (yield_telling (written h.held l) (written h'.held l') read_fault_line refl) (unopened (inr (counted.failed refl)) refl refl refl refl, refl) (ends.other (λ e. cc))) keeps.asked)
+    (tells_last (yield_telling (written h.held l) (written h'.held l') read_fault_line refl) (unopened asked all _ (inr (counted.failed refl))) (ends.other (λ e. cc))) keeps.asked)
 
 pub unscanned_runs : {s t : ShelfState} {h h' : SinkState} {l l' : List ℕ} {result : Result Status Failed} (asked : Turning) (why : OpenFault) → ScansFile asked s t (Err why) → EndsUnopened why h h' l l' result → Runs (gateway_task asked) HandsNothing false s t h h' l l' result
 unscanned_runs {s} {t} {result = result} asked why scan ends =
@@ -137,10 +140,11 @@ unscanned_runs {s} {t} {result = result} asked why scan ends =
 
 outcome_since : (asked : Turning) (all : Files) (shape : Option Shape) (bytes : List ℕ) (a b : Type 0) (ended : Status) (text : List ℕ) (made : Option (List ℕ)) → (a → b) → all asked.input ≡ Some bytes
     → CanTurn asked bytes → shape ≡ shape_asked asked (records_of asked bytes) → TurnedOutcome asked shape bytes a ended text made
-    → GatewayOutcome asked all b (asked.input ∷ asked.output ∷ asked.input ∷ []) ended text made
+    → GatewayYields asked all b (asked.input ∷ asked.output ∷ asked.input ∷ []) ended (says text) made
 outcome_since asked all shape bytes a b ended text made weaker is can same o =
-    let hears : HearsInput asked all b shape (batches_by asked (records_in o.prefix) o.how) o.how = record { bytes = bytes; prefix = o.prefix; told = is; can = can; ends = ends_weaker asked.listener.limit (Some bytes) a b o.how o.prefix weaker o.ends; shape_is = same; presented = refl } in
-    turned shape (batches_by asked (records_in o.prefix) o.how) o.how hears refl o.status o.printed o.written
+    let at = turned asked all b bytes o.prefix o.how is can (ends_weaker asked.listener.limit (Some bytes) a b o.how o.prefix weaker o.ends) in
+    let batches = batches_by asked (records_in o.prefix) o.how in
+    (at.0, at.1, same_run _ _ ended _ (says text) _ made _ refl o.status (ap says o.printed) o.written ∙ (ap (λ (s : Option Shape). turned_by asked s batches o.how) same ∙ at.2))
 
 own_never : (result : Result Status Failed) (other : Status) → is_of_gateway other ≡ false → IfOk result (λ e. is_of_gateway e ≡ true) → result ≡ Ok other → ⊥
 own_never (Ok e) other never own is = let same : e ≡ other = ok_same (Ok e) e other refl is in let t : true ≡ false = sym own ∙ (ap is_of_gateway same ∙ never) in cc
@@ -196,7 +200,7 @@ module _ {s t u : ShelfState} {h h' : SinkState} {l l' : List ℕ} {result : Res
           came = asked.input ∷ asked.output ∷ asked.input ∷ [];
           ended = made.tells.ended;
           yields = says made.tells.yields;
-          outcome = (outcome_since asked all shape of.0 _ _ made.tells.ended made.tells.yields made.made rose of.1 can of.2.2 made.tells.outcome, refl);
+          outcome = outcome_since asked all shape of.0 _ _ made.tells.ended made.tells.yields made.made rose of.1 can of.2.2 made.tells.outcome;
           whole = whole_at result made.tells.ended made.tells.yields (came_all result refl) made.tells.whole;
           part = part_text refl (says made.tells.yields) made.tells.part;
         };

@@ -1,5 +1,5 @@
 -- What `gateway` prints, how it ends, and what it makes.
-use Rattle.std.specs.Prelude.{false, ℕ, codes, List, [], ◌∷◌, Option, Some, None, ◌++◌, take, length, flat_map, ◌==◌, if◌then◌else◌, ◌≡◌, ◌≢◌, ◌^◌, ◌≤◌}
+use Rattle.std.specs.Prelude.{zero, false, ℕ, codes, List, [], ◌∷◌, Option, Some, None, ◌++◌, take, length, flat_map, ◌==◌, if◌then◌else◌, ◌≡◌, ◌≢◌, ◌^◌, ◌≤◌}
 use Rattle.am824_gateway.specs.declared.scan.To.{To}
 use Rattle.avtp_words.specs.declared.gateway.GatewayFormat.{GatewayFormat}
 use Rattle.am824_gateway.specs.declared.scan.ScanFault.{ScanFault}
@@ -28,11 +28,13 @@ use Rattle.am824_gateway.specs.declared.scan.ScanFault.TheVariants as fault
 use Rattle.am824_gateway.specs.declared.skip.Skip.TheVariants as skip
 use Rattle.capture_io.specs.declared.end.End.TheVariants as end
 use Rattle.run_report.specs.Listener.{plan_of}
-use Rattle.run_report.specs.Endings.{side_line, IsUnopened}
+use Rattle.run_report.specs.Endings.{side_line}
 use Rattle.run_report.specs.declared.status.Status.{Status}
 use Rattle.run_report.specs.Status.{status_of}
 use Rattle.run_report.specs.Runs.{Task}
-use Rattle.run_report.specs.Yield.{Yield}
+use Rattle.run_report.specs.Yield.{Yield, says}
+use Rattle.run_report.specs.RunReport.{Halts, RunReport, ends_unread}
+use Rattle.run_report.specs.Halt.{CanHalt, Halt, no_halt, not_opened, stopped_after}
 use Rattle.run_report.specs.Lines.{of_each}
 use Rattle.run_report.specs.declared.status.Status.TheVariants as status
 use Rattle.capture_hearing.specs.Shown.{shown_by}
@@ -140,7 +142,50 @@ abbrev pub turned_status : ℕ → End → Status
 turned_status skipped end.Whole = if skipped == 0 then status.Done else status.Findings
 turned_status skipped how = status_of how
 
--- ---- the outcomes of a run
+-- ---- a run
+
+-- the first bytes of IN that are read after OUT was made
+abbrev pub read_again : Turning → List ℕ → Halt → List ℕ
+read_again asked bytes no_halt = take asked.listener.limit bytes
+read_again asked bytes (not_opened place) = []
+read_again asked bytes (stopped_after place after) = take after bytes
+
+-- how the reading of IN ends after OUT was made
+abbrev pub again_end : Halt → End
+again_end no_halt = end.Whole
+again_end halt = end.ReadFault
+
+-- a run of `gateway` that makes no capture
+abbrev pub unturned : Turning → Status → List ℕ → RunReport
+unturned asked ended text = record { came = asked.input ∷ []; ended = ended; yields = says text; made = None }
+
+-- a run of `gateway` that made a capture of these batches, given how the second reading of IN ended
+abbrev pub turned_by : Turning → Option Shape → List Presented → End → RunReport
+turned_by asked shape batches how = record {
+  came = asked.input ∷ asked.output ∷ asked.input ∷ [];
+  ended = turned_status (length (skips_in asked shape batches)) how;
+  yields = says (turned_text asked shape batches how);
+  made = Some (turned_capture asked shape batches);
+}
+
+-- What `gateway` does, given the bytes of IN, the run's read fault, the first scanned record that cannot be converted,
+-- if any, and how the scan ended.
+abbrev pub gateway_by : Turning → List ℕ → Halt → Option FaultAt → End → RunReport
+gateway_by asked bytes halt (Some at) how = unturned asked status.TalkInput (fault_line at)
+gateway_by asked bytes halt None end.Whole =
+    turned_by asked (shape_asked asked (records_of asked bytes)) (batches_by asked (records_in (read_again asked bytes halt)) (again_end halt)) (again_end halt)
+gateway_by asked bytes halt None how = unturned asked (status_of how) (side_line asked.listener.limit how)
+
+-- What `gateway` does, given the bytes of IN, or `None` if IN is missing. IN is read twice: it is scanned, and it is
+-- read again after OUT was made.
+abbrev pub gateway_report : Turning → Option (List ℕ) → Halt → RunReport
+gateway_report asked None halt = ends_unread (asked.input ∷ [])
+gateway_report asked (Some bytes) (not_opened zero) = ends_unread (asked.input ∷ [])
+gateway_report asked (Some bytes) (stopped_after zero after) =
+    gateway_by asked bytes (stopped_after zero after) (fault_in asked (records_in (take after bytes))) end.ReadFault
+gateway_report asked (Some bytes) halt = gateway_by asked bytes halt (fault_in asked (records_of asked bytes)) (end_of asked.listener.limit bytes)
+
+-- ---- what the capture keeps
 
 -- The capture was scanned to its end, and each of its records can be converted.
 pub record CanTurn (asked : Turning) (bytes : List ℕ) : Type 0 where
@@ -158,24 +203,6 @@ pub record HearsInput (asked : Turning) (files : Files) (fault : Type 0) (shape 
   pub shape_is : shape ≡ shape_asked asked (records_of asked bytes)
   pub presented : batches ≡ batches_by asked (records_in prefix) how
 
--- The possible outcomes of a run of `gateway` over these files: the names that the run asks for, its status, its text,
--- and the capture that the run makes, if any. A read fault is possible only if `fault` holds.
-pub data GatewayOutcome (asked : Turning) (files : Files) (fault : Type 0) (came : List (List ℕ)) (ended : Status) (text : List ℕ) (made : Option (List ℕ)) : Type 0 where
-  -- IN was not opened.
-  unopened : IsUnopened files fault asked.input → came ≡ asked.input ∷ [] → ended ≡ status.ReadFault → text ≡ read_fault_line → made ≡ None
-      → GatewayOutcome asked files fault came ended text made
-  -- A record of IN cannot be converted.
-  faulty : (bytes : List ℕ) (at : FaultAt) → files asked.input ≡ Some bytes → fault_in asked (records_of asked bytes) ≡ Some at
-      → came ≡ asked.input ∷ [] → ended ≡ status.TalkInput → text ≡ fault_line at → made ≡ None → GatewayOutcome asked files fault came ended text made
-  -- The scan ended before the end of IN, and each record that was read can be converted.
-  cut : (bytes prefix : List ℕ) (how : End) → files asked.input ≡ Some bytes → EndsAt asked.listener.limit (Some bytes) fault how prefix → how ≢ end.Whole
-      → fault_in asked (records_in prefix) ≡ None → came ≡ asked.input ∷ [] → ended ≡ status_of how → text ≡ side_line asked.listener.limit how → made ≡ None
-      → GatewayOutcome asked files fault came ended text made
-  -- IN was scanned, OUT was made, and IN was read again.
-  turned : (shape : Option Shape) (batches : List Presented) (how : End) → HearsInput asked files fault shape batches how → came ≡ asked.input ∷ asked.output ∷ asked.input ∷ []
-      → ended ≡ turned_status (length (skips_in asked shape batches)) how → text ≡ turned_text asked shape batches how → made ≡ Some (turned_capture asked shape batches)
-      → GatewayOutcome asked files fault came ended text made
-
 -- What the capture OUT keeps of IN. OUT is a whole capture. If a listener has no clock and its buffer is never full,
 -- the listener presents from OUT exactly the samples of the batches of IN that are not skipped. The presented samples
 -- have the same order, values and instants as in IN. `check` prints no finding for OUT. If the status is 0, no batch is
@@ -189,65 +216,16 @@ pub record KeepsInput (asked : Turning) (files : Files) (fault : Type 0) (ended 
   pub silent : of_each check_lines (whole_records capture) ≡ []
   pub all : ended ≡ status.Done → SkipsNone (format_of asked.to) shape batches
 
--- ---- if no read fault occurs
-
--- the names that `gateway` asks for, given the first record that cannot be converted, if any, and how the scan ended
-abbrev pub came_by : Turning → Option FaultAt → End → List (List ℕ)
-came_by asked (Some at) how = asked.input ∷ []
-came_by asked None end.Whole = asked.input ∷ asked.output ∷ asked.input ∷ []
-came_by asked None how = asked.input ∷ []
-
--- the status of `gateway`, given the records of IN, the first record that cannot be converted, if any, and how the scan
--- ended
-abbrev pub ended_by : Turning → List Record → Option FaultAt → End → Status
-ended_by asked records (Some at) how = status.TalkInput
-ended_by asked records None how = turned_status (length (skips_in asked (shape_asked asked records) (batches_by asked records how))) how
-
--- the text of `gateway`, given the records of IN, the first record that cannot be converted, if any, and how the scan
--- ended
-abbrev pub text_by : Turning → List Record → Option FaultAt → End → List ℕ
-text_by asked records (Some at) how = fault_line at
-text_by asked records None end.Whole = turned_text asked (shape_asked asked records) (batches_by asked records end.Whole) end.Whole
-text_by asked records None how = side_line asked.listener.limit how
-
--- The capture that `gateway` makes, or `None`. The result depends on the records of IN, on the first record that cannot
--- be converted, if any, and on how the scan ended.
-abbrev pub made_by : Turning → List Record → Option FaultAt → End → Option (List ℕ)
-made_by asked records (Some at) how = None
-made_by asked records None end.Whole = Some (turned_capture asked (shape_asked asked records) (batches_by asked records end.Whole))
-made_by asked records None how = None
-
--- the names that `gateway` asks for if no read fault occurs; the option holds the bytes of IN, or is `None` if IN is
--- missing
-abbrev pub gateway_came : Turning → Option (List ℕ) → List (List ℕ)
-gateway_came asked None = asked.input ∷ []
-gateway_came asked (Some bytes) = came_by asked (fault_in asked (records_of asked bytes)) (end_of asked.listener.limit bytes)
-
--- the status of `gateway` if no read fault occurs, given the bytes of IN, or `None` if IN is missing
-abbrev pub gateway_ended : Turning → Option (List ℕ) → Status
-gateway_ended asked None = status.ReadFault
-gateway_ended asked (Some bytes) = ended_by asked (records_of asked bytes) (fault_in asked (records_of asked bytes)) (end_of asked.listener.limit bytes)
-
--- the whole text of `gateway` if no read fault occurs; the option holds the bytes of IN, or is `None` if IN is missing
-abbrev pub gateway_report : Turning → Option (List ℕ) → List ℕ
-gateway_report asked None = read_fault_line
-gateway_report asked (Some bytes) = text_by asked (records_of asked bytes) (fault_in asked (records_of asked bytes)) (end_of asked.listener.limit bytes)
-
--- the capture that `gateway` makes if no read fault occurs, given the bytes of IN, or `None` if IN is missing
-abbrev pub gateway_made : Turning → Option (List ℕ) → Option (List ℕ)
-gateway_made asked None = None
-gateway_made asked (Some bytes) = made_by asked (records_of asked bytes) (fault_in asked (records_of asked bytes)) (end_of asked.listener.limit bytes)
-
 -- the values that the words give to `gateway` are within their bounds
 pub record IsTurning (asked : Turning) : Type 0 where
   pub limit : asked.listener.limit ≤ 2 ^ 40
   pub plan : IsPlan (schedule_plan (plan_of asked.listener))
   pub apart : asked.input ≢ asked.output
 
--- what a run of `gateway` over these files can result in: the names that the run asks for, the status, the yield, and
--- the capture that the run makes, if any
+-- what a run of `gateway` over these files did, under one of the read faults that are possible
 abbrev pub GatewayYields : Turning → Files → Type 0 → List (List ℕ) → Status → Yield → Option (List ℕ) → Type 0
-GatewayYields asked files fault came ended yields made = GatewayOutcome asked files fault came ended yields.text made × (yields.items ≡ [])
+GatewayYields asked files fault came ended yields made =
+    Halts (CanHalt asked.listener.limit (asked.input ∷ asked.input ∷ []) files fault) (gateway_report asked (files asked.input)) came ended yields made
 
 -- what the words ask `gateway` to do
 abbrev pub gateway_task : Turning → Task

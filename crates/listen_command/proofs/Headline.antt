@@ -1,5 +1,5 @@
 -- What `listen` yields of a file that a talker sent, if the talker keeps the rules.
-use Rattle.std.proofs.Common.{◌≡◌, List, false, refl, ◌++◌, ℕ, sym, ap, subst, ◌∙◌, Option, Some, None, inl, inr, ◌∷◌, Bool}
+use Rattle.std.proofs.Common.{zero, suc, take, ◌≡◌, List, false, refl, ◌++◌, ℕ, sym, ap, subst, ◌∙◌, Option, Some, None, inl, inr, ◌∷◌, Bool}
 use Rattle.std.specs.Prelude.{◌⊎◌}
 use mathlib.Core.List.{IsPrefix}
 use Rattle.pcap_frames.specs.Capture.{Record}
@@ -15,14 +15,17 @@ use Rattle.avtp_words.specs.Grammar.{Listening}
 use Rattle.avtp_text.specs.Notices.{read_fault_line}
 use Rattle.avtp_base.specs.Files.{Files}
 use Rattle.capture_io.specs.declared.end.End.TheVariants as end
-use Rattle.run_report.specs.declared.status.Status.{Status}
 use Rattle.run_report.specs.Listener.{plan_of}
-use Rattle.run_report.specs.Reading.{ReadOutcome, FileOutcome, one_outcome}
+use Rattle.run_report.specs.Reading.{file_yield, in_order_yield, one_status, one_yield, plan_report}
+use Rattle.run_report.specs.Halt.{CanHalt, CanStop, Halt, no_halt, not_opened, stopped_after}
+use Rattle.run_report.proofs.OneFile.{stops_here}
+use Rattle.capture_io.specs.Ends.{EndsAt, end_of}
+use Rattle.capture_io.proofs.Ending.{ends_here}
 use Rattle.run_report.specs.Yield.{Yield, says, with_more}
 use Rattle.run_report.proofs.Yields.{more_more}
 use Rattle.run_report.proofs.InOrder.{among}
 use Rattle.capture_hearing.specs.Shown.{shown_by}
-use Rattle.listen_command.specs.Listen.{is_cut_short, listen_report, YieldsHeadline, HasHeadline, listen_plan, device_notice, ListenOutcome}
+use Rattle.listen_command.specs.Listen.{is_cut_short, heard_yield, listen_report, YieldsHeadline, HasHeadline, listen_plan, device_notice, with_devices}
 
 -- ---- the headline
 
@@ -42,40 +45,43 @@ first_shown plan first others (end.Refused refusal) = whole_first plan first oth
 first_shown plan first others end.ReadFault = due_stays plan first others
 first_shown plan first others end.Limit = due_stays plan first others
 
-opened : (asked : Listening) (name bytes : List ℕ) (fault : Type 0) (ended : Status) (yields : Yield) → ReadOutcome (listen_report asked name) asked.listener.limit bytes fault ended yields → YieldsHeadline asked name bytes fault yields
-opened asked name bytes fault ended yields outcome =
+opened : (asked : Listening) (name bytes read : List ℕ) (fault : Type 0) (how : End) → EndsAt asked.listener.limit (Some bytes) fault how read → YieldsHeadline asked name bytes fault (heard_yield asked name (records_in read) how)
+opened asked name bytes read fault how ends =
     let plan : ListenPlan = plan_of asked.listener in
-    let records : List Record = records_in outcome.prefix in
-    let items : yields.items ≡ shown_by plan records outcome.how = ap (λ (y : Yield). y.items) outcome.given in
     record {
-      how = outcome.how;
-      read = outcome.prefix;
-      ends = outcome.ends;
-      same = outcome.given;
+      how = how;
+      read = read;
+      ends = ends;
+      same = refl;
       front = λ shift p first others split hears. (
-        subst (IsPrefix (due_of plan first)) (sym (items ∙ ap (λ (rs : List Record). shown_by plan rs outcome.how) split)) (first_shown plan first others outcome.how),
+        subst (IsPrefix (due_of plan first)) (sym (ap (λ (rs : List Record). shown_by plan rs how) split)) (first_shown plan first others how),
         true_front shift p plan first others hears,
       );
-      whole = λ shift p all hears. subst (KeepsHeadline shift p plan records) (sym (items ∙ all_shown plan records outcome.how all)) (headline shift p plan records hears);
+      whole = λ shift p all hears. subst (KeepsHeadline shift p plan (records_in read)) (sym (all_shown plan (records_in read) how all)) (headline shift p plan (records_in read) hears);
     }
 
-of_file : (asked : Listening) (name bytes : List ℕ) (told : Option (List ℕ)) (fault : Type 0) (ended : Status) (yields : Yield) → told ≡ Some bytes → FileOutcome (listen_report asked name) asked.listener.limit told fault ended yields
-    → (fault × (yields ≡ says read_fault_line)) ⊎ YieldsHeadline asked name bytes fault yields
-of_file asked name bytes None fault ended yields is outcome = absurd cc
-of_file asked name bytes (Some all) fault ended yields is (inl read) = let same : all ≡ bytes = cc in inr (subst (λ (b : List ℕ). YieldsHeadline asked name b fault yields) same (opened asked name all fault ended yields read))
-of_file asked name bytes (Some all) fault ended yields is (inr unopened) = inl (unopened.0, unopened.2)
+of_file : (asked : Listening) (files : Files) (rest : List (List ℕ)) (name bytes : List ℕ) (fault : Type 0) (halt : Halt) → files name ≡ Some bytes → CanHalt asked.listener.limit (name ∷ rest) files fault halt
+    → (fault × (file_yield (listen_report asked name) asked.listener.limit (Some bytes) halt ≡ says read_fault_line)) ⊎ YieldsHeadline asked name bytes fault (file_yield (listen_report asked name) asked.listener.limit (Some bytes) halt)
+of_file asked files rest name bytes fault no_halt is can = inr (opened asked name bytes (take asked.listener.limit bytes) fault (end_of asked.listener.limit bytes) (ends_here asked.listener.limit bytes fault))
+of_file asked files rest name bytes fault (not_opened zero) is can = inl (can, refl)
+of_file asked files rest name bytes fault (not_opened (suc place)) is can = inr (opened asked name bytes (take asked.listener.limit bytes) fault (end_of asked.listener.limit bytes) (ends_here asked.listener.limit bytes fault))
+of_file asked files rest name bytes fault (stopped_after zero after) is can =
+    inr (opened asked name bytes (take after bytes) fault end.ReadFault (stops_here asked.listener.limit bytes after fault can.0 (subst (λ (told : Option (List ℕ)). CanStop asked.listener.limit told after) is can.1)))
+of_file asked files rest name bytes fault (stopped_after (suc place) after) is can = inr (opened asked name bytes (take asked.listener.limit bytes) fault (end_of asked.listener.limit bytes) (ends_here asked.listener.limit bytes fault))
 
-pub has_headline : (asked : Listening) (files : Files) (fault : Type 0) (failed : Bool) (earlier later came : List (List ℕ)) (name bytes : List ℕ) (ended : Status) (yields : Yield) → ListenOutcome asked files fault failed came ended yields
-    → came ≡ earlier ++ name ∷ later → files name ≡ Some bytes → HasHeadline asked files fault earlier name bytes yields
-has_headline asked files fault failed earlier later came name bytes ended yields outcome reached told =
-    let notice : Yield = says (device_notice failed outcome.heard) in
-    let this = among (one_outcome (listen_plan asked) files fault) asked.files came earlier later name outcome.heard outcome.given outcome.reads reached in
+pub has_headline : (asked : Listening) (files : Files) (fault : Type 0) (failed : Bool) (halt : Halt) (earlier later : List (List ℕ)) (name bytes : List ℕ) → CanHalt asked.listener.limit asked.files files fault halt
+    → (plan_report (listen_plan asked) files halt).came ≡ earlier ++ name ∷ later → files name ≡ Some bytes → HasHeadline asked files fault earlier name bytes (with_devices failed (plan_report (listen_plan asked) files halt)).yields
+has_headline asked files fault failed halt earlier later name bytes can reached told =
+    let plan = listen_plan asked in
+    let notice : Yield = says (device_notice failed (plan_report plan files halt).ended) in
+    let this = among plan files fault (λ n records. refl) halt asked.files earlier later name can reached in
+    let before = in_order_yield (one_status plan files) (one_yield plan files) no_halt earlier in
+    let here = one_yield plan files this.halt name in
     record {
-      before = this.before;
       done = this.done;
-      others = this.others;
-      here = this.here;
+      here = here;
+      keeps = subst (λ (it : Option (List ℕ)). (fault × (file_yield (listen_report asked name) asked.listener.limit it this.halt ≡ says read_fault_line)) ⊎ YieldsHeadline asked name bytes fault (file_yield (listen_report asked name) asked.listener.limit it this.halt)) (sym told)
+          (of_file asked files this.rest name bytes fault this.halt told this.can);
       after = with_more this.after notice;
-      split = outcome.notice ∙ ap (λ (y : Yield). with_more y notice) this.split ∙ more_more this.before (with_more this.here this.after) notice ∙ ap (λ (y : Yield). with_more this.before y) (more_more this.here this.after notice);
-      keeps = of_file asked name bytes (files name) fault this.ended this.here told this.outcome;
+      split = ap (λ (y : Yield). with_more y notice) this.split ∙ more_more before (with_more here this.after) notice ∙ ap (with_more before) (more_more here this.after notice);
     }

@@ -21,6 +21,7 @@ use Rattle.avtp_base.specs.States.{SinkState}
 use Rattle.listener.specs.declared.heard.Counts.{Counts}
 use Rattle.run_report.specs.Yield.{GivesPart, Yield}
 use Rattle.run_report.specs.Reading.{file_yield}
+use Rattle.run_report.specs.Halt.{no_halt}
 use Rattle.run_report.proofs.Yields.{part_text}
 use Rattle.run_report.specs.Listener.{plan_of}
 use Rattle.run_report.specs.declared.status.Status.{Status}
@@ -41,7 +42,7 @@ use Rattle.listen_command.specs.state.Listen.{HasHeard, HearsRecords, heard_end}
 -- ---- what is printed
 
 abbrev pub IsCutYield : Listening → (List Shown → Type 0) → List ℕ → List ℕ → Option (List ℕ) → Option (List ℕ) → Type 0
-IsCutYield asked handed name bytes before now = GivesPart handed before now (file_yield (listen_report asked name) asked.listener.limit (Some bytes))
+IsCutYield asked handed name bytes before now = GivesPart handed before now (file_yield (listen_report asked name) asked.listener.limit (Some bytes) no_halt)
 
 pub name_cut : {handed : List Shown → Type 0} {before now : Option (List ℕ)} (asked : Listening) (name bytes : List ℕ) → handed [] → AppendsPrefix before now (capture_line name) → IsCutYield asked handed name bytes before now
 name_cut {before = before} {now} asked name bytes none prefix = part_text none _ (prefix_before before now _ _ (prefix_before before now (capture_line name) _ prefix))

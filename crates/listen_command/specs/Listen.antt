@@ -20,7 +20,10 @@ use Rattle.sample_schedule.specs.Limits.{IsPlan as IsSchedulePlan}
 use Rattle.capture_io.specs.declared.end.End.TheVariants as end
 use Rattle.run_report.specs.Yield.{Yield, says, with_more}
 use Rattle.run_report.specs.Listener.{plan_of}
-use Rattle.run_report.specs.Reading.{Report, ReadPlan, InOrder, one_outcome, PlanOutcome}
+use Rattle.run_report.specs.Reading.{Report, ReadPlan, in_order_status, in_order_yield, one_status, one_yield}
+use Rattle.run_report.specs.Halt.{no_halt}
+use Rattle.run_report.specs.RunReport.{RunReport}
+use Rattle.run_report.specs.Outcome.{is_done}
 use Rattle.run_report.specs.Status.{status_of}
 use Rattle.run_report.specs.declared.status.Status.{Status}
 use Rattle.run_report.specs.declared.status.Status.TheVariants as status
@@ -80,17 +83,15 @@ pub record YieldsHeadline (asked : Listening) (name bytes : List ℕ) (fault : T
   pub whole : (shift : ℤ) (p : PacketJournal) → is_cut_short how ≡ false → HearsTalker shift p (plan_of asked.listener) (records_in read) →
       KeepsHeadline shift p (plan_of asked.listener) (records_in read) yields.items
 
--- What a run yields, in three parts. `before` is what the earlier files yield; all the earlier files were read to their
--- ends. `here` is what the file `name` yields: the line of a read fault if the file could not be opened, otherwise what
--- the headline says. `after` is what the later files yield.
+-- What a run yields, in three parts: first what the earlier files yield, all of which were read to their ends; then
+-- `here`, what the file `name` yields; then `after`, what the later files yield. `here` is the line of a read fault if
+-- the file could not be opened, otherwise what the headline says.
 pub record HasHeadline (asked : Listening) (files : Files) (fault : Type 0) (earlier : List (List ℕ)) (name bytes : List ℕ) (yields : Yield) : Type 0 where
-  pub before : Yield
-  pub done : Status
-  pub others : InOrder (one_outcome (listen_plan asked) files fault) earlier earlier done before
+  pub done : is_done (in_order_status (one_status (listen_plan asked) files) no_halt earlier) ≡ true
   pub here : Yield
   pub keeps : (fault × (here ≡ says read_fault_line)) ⊎ YieldsHeadline asked name bytes fault here
   pub after : Yield
-  pub split : yields ≡ with_more before (with_more here after)
+  pub split : yields ≡ with_more (in_order_yield (one_status (listen_plan asked) files) (one_yield (listen_plan asked) files) no_halt earlier) (with_more here after)
 
 -- The status of a run of `listen`, given whether a device failed and the status of reading the files. A failed device
 -- changes the status only if reading the files ended with `Done`.
@@ -104,15 +105,9 @@ abbrev pub device_notice : Bool → Status → List ℕ
 device_notice true status.Done = device_fault_line
 device_notice failed ended = []
 
--- A possible outcome of a run of `listen` over these files. `heard` is the status of reading the files, and `given` is
--- the yield of reading them. If a device failed and `heard` is `Done`, the run's status and its last line say that a
--- device failed.
-pub record ListenOutcome (asked : Listening) (files : Files) (fault : Type 0) (failed : Bool) (came : List (List ℕ)) (ended : Status) (yields : Yield) : Type 0 where
-  pub heard : Status
-  pub given : Yield
-  pub reads : PlanOutcome (listen_plan asked) files fault came heard given
-  pub status : ended ≡ device_status failed heard
-  pub notice : yields ≡ with_more given (says (device_notice failed heard))
+-- what `listen` does if reading the files does this
+abbrev pub with_devices : Bool → RunReport → RunReport
+with_devices failed read = record read { ended = device_status failed read.ended; yields = with_more read.yields (says (device_notice failed read.ended)) }
 
 -- ---- values within their bounds
 

@@ -35,6 +35,8 @@ use Rattle.run_report.specs.Reading.{file_status, file_yield, in_order_read, in_
 use Rattle.listen_command.specs.Listen.{device_status}
 use Rattle.run_report.specs.Status.{status_of}
 use Rattle.run_report.specs.Yield.{Yield, says}
+use Rattle.run_report.specs.Halt.{Halt, no_halt}
+use Rattle.avtp_tool.specs.Run.{report_for}
 use Rattle.avtp_tool.proofs.Ended.{quiet_not}
 use Rattle.run_report.proofs.OneFile.{by_end}
 use Rattle.run_laws.specs.Defaults.{listen_default, listen_words}
@@ -43,19 +45,19 @@ use Rattle.run_laws.proofs.Words.{listens}
 
 -- ---- a run over one file
 
-one_came : (ends : List ℕ → Status) (name : List ℕ) → in_order_read ends (name ∷ []) ≡ name ∷ []
+one_came : (ends : Halt → List ℕ → Status) (name : List ℕ) → in_order_read ends no_halt (name ∷ []) ≡ name ∷ []
 unfolding in_order_read
-one_came ends name = elim (cases_Bool (is_done (ends name))) [ inl is ↦ rw is refl | inr is ↦ rw is refl ]
+one_came ends name = elim (cases_Bool (is_done (ends no_halt name))) [ inl is ↦ rw is refl | inr is ↦ rw is refl ]
 
-one_ended : (ends : List ℕ → Status) (name : List ℕ) → in_order_status ends (name ∷ []) ≡ ends name
+one_ended : (ends : Halt → List ℕ → Status) (name : List ℕ) → in_order_status ends no_halt (name ∷ []) ≡ ends no_halt name
 unfolding in_order_status
-one_ended ends name = elim (cases_Bool (is_done (ends name))) [ inl is ↦ rw is refl | inr is ↦ rw is refl ]
+one_ended ends name = elim (cases_Bool (is_done (ends no_halt name))) [ inl is ↦ rw is refl | inr is ↦ rw is refl ]
 
-one_given : (ends : List ℕ → Status) (yields : List ℕ → Yield) (name : List ℕ) → (in_order_yield ends yields (name ∷ [])).items ≡ (yields name).items
+one_given : (ends : Halt → List ℕ → Status) (yields : Halt → List ℕ → Yield) (name : List ℕ) → (in_order_yield ends yields no_halt (name ∷ [])).items ≡ (yields no_halt name).items
 unfolding in_order_yield
-one_given ends yields name = elim (cases_Bool (is_done (ends name))) [
-  | inl is ↦ rw is (append-nil (yields name).items)
-  | inr is ↦ rw is (append-nil (yields name).items)
+one_given ends yields name = elim (cases_Bool (is_done (ends no_halt name))) [
+  | inl is ↦ rw is (append-nil (yields no_halt name).items)
+  | inr is ↦ rw is (append-nil (yields no_halt name).items)
 ]
 
 -- ---- a capture that was read to its end
@@ -111,8 +113,8 @@ ended_by : (id : ℕ) (word name bytes : List ℕ) (files after : Files) (handed
 ended_by id word name bytes files after handed still failed ended is named holds ran memory written =
     let asked = listen_default id name in
     let report = (ran.promised (listen asked) (listens word name id is named)).reports files ran.told (subst IsSome (sym ran.told_after) refl) in
-    (report.whole memory written).0 ∙ (report.complete ran.read).1
-    ∙ ap (device_status failed) (one_ended (one_status (listen_plan asked) files) name ∙ ap (file_status (listen_report asked name) (2 ^ 40)) holds)
+    (report.did.whole memory written).0 ∙ ap (λ (halt : Halt). (report_for (listen asked) files failed halt).ended) (report.complete ran.read)
+    ∙ ap (device_status failed) (one_ended (one_status (listen_plan asked) files) name ∙ ap (λ told. file_status (listen_report asked name) (2 ^ 40) told no_halt) holds)
 
 pub ends : (plan : TalkPlan) (input word name : List ℕ) (files after : Files) (handed : List Shown → Type 0) (still : Type 0) (ended : Status) → IsId word plan.id → IsName name
     → first_refusal (capture plan input) ≡ None → length (capture plan input) ≤ 2 ^ 40 → files name ≡ Some (capture plan input)
@@ -133,15 +135,15 @@ gives_all plan input packets word name files after handed still failed id named 
     let bytes = capture plan input in
     let report = (ran.promised (listen asked) (listens word name plan.id id named)).reports files ran.told (subst IsSome (sym ran.told_after) refl) in
     let complete = report.complete ran.read in
-    let whole = report.whole (λ e. cc) (λ e. cc) in
+    let whole = report.did.whole (λ e. cc) (λ e. cc) in
     let ends = one_status (listen_plan asked) files in
     let none = quiet_not ran.shelf.reading_faults ran.shelf'.reading_faults ran.read in
     let how = done_whole failed (end_of (2 ^ 40) bytes) (ended_by plan.id word name bytes files after handed still failed status.Done id named holds ran (λ e. cc) (λ e. cc)) in
     let taken : take (2 ^ 40) bytes ≡ bytes = take_all (2 ^ 40) bytes (within (2 ^ 40) bytes how) in
-    let items : report.yields.items ≡ shown_of (default_listener plan.id) (records_in bytes) =
-    ap (λ (y : Yield). y.items) complete.2 ∙ append-nil _ ∙ one_given ends (one_yield (listen_plan asked) files) name
-    ∙ ap (λ told. (file_yield (listen_report asked name) (2 ^ 40) told).items) holds ∙ shown_whole asked bytes (take (2 ^ 40) bytes) (end_of (2 ^ 40) bytes) how taken in
-    let headline = report.headline asked [] [] name bytes refl (complete.0 ∙ one_came ends name) holds in
+    let items : (report_for (listen asked) files failed report.halt).yields.items ≡ shown_of (default_listener plan.id) (records_in bytes) =
+    ap (λ (halt : Halt). (report_for (listen asked) files failed halt).yields.items) complete ∙ append-nil _ ∙ one_given ends (one_yield (listen_plan asked) files) name
+    ∙ ap (λ told. (file_yield (listen_report asked name) (2 ^ 40) told no_halt).items) holds ∙ shown_whole asked bytes (take (2 ^ 40) bytes) (end_of (2 ^ 40) bytes) how taken in
+    let headline = report.headline asked [] [] name bytes refl (ap (λ (halt : Halt). (report_for (listen asked) files failed halt).came) complete ∙ one_came ends name) holds in
     record {
       items = shown_of (default_listener plan.id) (records_in bytes);
       given = subst handed items whole.2;

@@ -20,12 +20,13 @@ use Rattle.run_report.proofs.OneFile.{file_fault, file_here, file_read}
 use Rattle.run_report.proofs.Outcomes.{counts_unopened, missing_none, tells_unopened, unopened_own, yield_telling, IsCut, tells_cut, tells_weaker}
 use Rattle.run_report.proofs.Leaving.{read_through}
 use Rattle.run_report.specs.Yield.{GivesPart}
+use Rattle.run_report.specs.Halt.{no_halt}
 
 pub does_unopened : {T : Type 0} {slot : T → ℕ} {s t : ShelfState} {h h' : SinkState} {l l' : List ℕ} {name : List ℕ} {result : Result Status Failed} {handed : List Shown → Type 0} (report : Report) (limit : ℕ) (fault : OpenFault)
     → handed [] → TriesOpen slot s t name (Err fault) → EndsUnopened fault h h' l l' result → DoesFile report handed limit name s t h h' l l' result
 does_unopened {T} {s = s} {t} {h} {h'} {l} {l'} {name} report limit fault none tries ends = record {
   tells = λ all told.
-      tells_unopened {T = T} fault s.reading_faults t.reading_faults s.files name (file_status report limit (all name)) (file_yield report limit (all name)) (yield_telling (written h.held l) (written h'.held l') read_fault_line none) (file_here report limit (all name) (Rose s.reading_faults t.reading_faults))
+      tells_unopened {T = T} fault s.reading_faults t.reading_faults s.files name (file_status report limit (all name) no_halt) (file_yield report limit (all name) no_halt) (yield_telling (written h.held l) (written h'.held l') read_fault_line none) (file_here report limit (all name) (Rose s.reading_faults t.reading_faults))
       (λ cause. file_fault report limit (all name) (Rose s.reading_faults t.reading_faults) (elim cause [ inl rose ↦ inl rose | inr gone ↦ inr (missing_none s.files name all told gone) ])) tries.counted tries.missing ends;
   keeps = tries.refused;
   counts = counts_unopened {T = T} fault s.reading_faults t.reading_faults s.files name tries.counted tries.missing ends;
@@ -66,13 +67,13 @@ module _ {s t u v : ShelfState} {source : Sourcing} {k limit : ℕ} {name : List
       }
 
   pub does_cut : {h h' : SinkState} {l l' : List ℕ} {handed : List Shown → Type 0} (result : Result Status Failed)
-      → ((bytes : List ℕ) → HasGivenOf limit bytes t source [] → GivesPart handed (written h.held l) (written h'.held l') (file_yield report limit (Some bytes))) → IsCut result
+      → ((bytes : List ℕ) → HasGivenOf limit bytes t source [] → GivesPart handed (written h.held l) (written h'.held l') (file_yield report limit (Some bytes) no_halt)) → IsCut result
       → (s.reading_faults ≤ v.reading_faults → CountsReading (name ∷ []) s.files s.reading_faults v.reading_faults result) → IsReadingStatus result → KeepsSink h h' result → DoesFile report handed limit name s v h h' l l' result
   does_cut {h} {h'} {l} {l'} {handed} result part cut counts own sink = record {
     tells = λ all is.
         let bytes = opened.begun all is in
-        let given = subst (λ (told : Option (List ℕ)). GivesPart handed (written h.held l) (written h'.held l') (file_yield report limit told)) (sym bytes.1) (part bytes.0 bytes.2) in
-        tells_cut (file_status report limit (all name)) (file_yield report limit (all name)) (file_here report limit (all name) (Rose s.reading_faults v.reading_faults)) cut given;
+        let given = subst (λ (told : Option (List ℕ)). GivesPart handed (written h.held l) (written h'.held l') (file_yield report limit told no_halt)) (sym bytes.1) (part bytes.0 bytes.2) in
+        tells_cut (file_status report limit (all name) no_halt) (file_yield report limit (all name) no_halt) (file_here report limit (all name) (Rose s.reading_faults v.reading_faults)) cut given;
     keeps = kept;
     counts = counts kept.reading;
     own = own;

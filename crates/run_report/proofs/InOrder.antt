@@ -1,5 +1,5 @@
 -- Files that are read in order.
-use Rattle.std.proofs.Common.{◌≡◌, inl, inr, refl, sym, subst, ap, ◌∙◌, true, false, ℕ, List, [], ◌∷◌, ◌++◌, Option, Result, Ok, Err}
+use Rattle.std.proofs.Common.{if◌then◌else◌, zero, suc, Some, None, take, ◌≡◌, inl, inr, refl, sym, subst, ap, ◌∙◌, true, false, ℕ, List, [], ◌∷◌, ◌++◌, Option, Result, Ok, Err}
 use Rattle.std.specs.Prelude.{◌⊎◌, ◌≢◌, IfOk}
 use Rattle.std.proofs.lemmas.Bool.{cases_Bool}
 use Rattle.avtp_base.specs.declared.failed.Failed.{Failed}
@@ -7,11 +7,16 @@ use Rattle.avtp_base.specs.States.{Asks, ShelfState}
 use Rattle.sample_schedule.specs.declared.shown.Shown.{Shown}
 use Rattle.avtp_base.specs.Files.{Files}
 use Rattle.run_report.specs.declared.status.Status.{Status}
-use Rattle.run_report.specs.Reading.{joined, InOrder, in_order_read, in_order_status, in_order_yield, one_outcome, one_status, one_yield, PlanOutcome, plan_read, plan_status, plan_yield, ReadPlan}
+use Rattle.run_report.specs.Reading.{FileOutcome, joined, in_order_read, in_order_status, in_order_yield, one_status, one_yield, PlanOutcome, plan_report, ReadPlan, file_status, Report}
 use Rattle.run_report.specs.Outcome.{is_done, IsDone, TellsRun, TellsYield}
 use Rattle.run_report.specs.Yield.{says, Yield, with_more, Gives}
 use Rattle.run_report.proofs.Yields.{more_more, more_none, gives_then, Joins, part_before, part_then}
-use Rattle.run_report.proofs.OneFile.{file_here, complete_file}
+use Rattle.run_report.proofs.RunReports.{same_run}
+use Rattle.run_report.specs.Reading.FileOutcome.{through, refused, halted}
+use Rattle.run_report.specs.Halt.{Halt, CanHalt, past_first, no_halt, not_opened, stopped_after}
+use Rattle.capture_io.specs.declared.end.End.TheVariants as end
+use Rattle.capture_io.specs.Formats.{records_in}
+use Rattle.pcap_frames.specs.Capture.{Record}
 use Rattle.run_report.specs.declared.status.Status.TheVariants as status
 
 -- ---- the status of files that are read one after another
@@ -50,6 +55,20 @@ joined_stop : (first rest : Status) → is_done rest ≡ false → joined first 
 joined_stop first rest stops = elim (last_of rest) [ inl is ↦ absurd (let t : true ≡ false = sym (ap is_done is) ∙ stops in cc) | inr last ↦ last first ]
 
 -- ---- files
+
+-- Files are read in order. The first file that does not end with `Done` or `Findings` ends the run. `One name` gives
+-- the possible outcomes of the file `name`. The list `read` has the names of the files that the run reached.
+unfoldable pub InOrder : (List ℕ → Status → Yield → Type 0) → List (List ℕ) → List (List ℕ) → Status → Yield → Type 0
+InOrder One [] read ended yields = (read ≡ []) × (ended ≡ status.Done) × (yields ≡ says [])
+InOrder One (name ∷ names) read ended yields =
+    ((is_done ended ≡ false) × (read ≡ name ∷ []) × One name ended yields)
+    ⊎ ((others : List (List ℕ)) × (first : Status) × (rest : Status) × (here : Yield) × (more : Yield)
+    × (is_done first ≡ true) × One name first here × InOrder One names others rest more
+    × (read ≡ name ∷ others) × (ended ≡ joined first rest) × (yields ≡ with_more here more))
+
+-- the possible outcomes of the file with this name, given the files of a shelf
+abbrev pub one_outcome : ReadPlan → Files → Type 0 → List ℕ → Status → Yield → Type 0
+one_outcome plan files fault name ended yields = FileOutcome (plan.report name) plan.limit (files name) fault ended yields
 
 pub none_read : (one : List ℕ → Status → Yield → Type 0) → InOrder one [] [] status.Done (says [])
 unfolding InOrder
@@ -97,26 +116,26 @@ pub order_last : (one : List ℕ → Status → Yield → Type 0) (name : List �
 unfolding InOrder
 order_last one name yields rest ended stops outcome = inl (stops, refl, outcome)
 
-pub order_here : (one : List ℕ → Status → Yield → Type 0) (ends : List ℕ → Status) (yields : List ℕ → Yield) → ((name : List ℕ) → one name (ends name) (yields name))
-    → (names : List (List ℕ)) → InOrder one names (in_order_read ends names) (in_order_status ends names) (in_order_yield ends yields names)
+pub order_here : (one : List ℕ → Status → Yield → Type 0) (ends : Halt → List ℕ → Status) (yields : Halt → List ℕ → Yield) → ((name : List ℕ) → one name (ends no_halt name) (yields no_halt name))
+    → (names : List (List ℕ)) → InOrder one names (in_order_read ends no_halt names) (in_order_status ends no_halt names) (in_order_yield ends yields no_halt names)
 unfolding InOrder in_order_read in_order_status in_order_yield
 order_here one ends yields here [] = (refl, refl, refl)
 order_here one ends yields here (name ∷ names) =
-    elim (cases_Bool (is_done (ends name))) [
-      | inl done ↦ inr (in_order_read ends names, ends name, in_order_status ends names, yields name, in_order_yield ends yields names, done, here name, order_here one ends yields here names, rw done refl, rw done refl, rw done refl)
+    elim (cases_Bool (is_done (ends no_halt name))) [
+      | inl done ↦ inr (in_order_read ends no_halt names, ends no_halt name, in_order_status ends no_halt names, yields no_halt name, in_order_yield ends yields no_halt names, done, here name, order_here one ends yields here names, rw done refl, rw done refl, rw done refl)
       | inr stops ↦
-          let ended : in_order_status ends (name ∷ names) ≡ ends name = rw stops refl in
-          let all : in_order_yield ends yields (name ∷ names) ≡ yields name = rw stops (more_none (yields name)) in
+          let ended : in_order_status ends no_halt (name ∷ names) ≡ ends no_halt name = rw stops refl in
+          let all : in_order_yield ends yields no_halt (name ∷ names) ≡ yields no_halt name = rw stops (more_none (yields no_halt name)) in
           inl (
             subst (λ (s : Status). is_done s ≡ false) (sym ended) stops,
             rw stops refl,
-            subst (λ (s : Status). one name s (in_order_yield ends yields (name ∷ names))) (sym ended) (subst (one name (ends name)) (sym all) (here name)),
+            subst (λ (s : Status). one name s (in_order_yield ends yields no_halt (name ∷ names))) (sym ended) (subst (one name (ends no_halt name)) (sym all) (here name)),
           )
     ]
 
 -- ---- what a run over several files gives out
 
-pub tells_stopped : {a b : ShelfState} {before mid now : Option (List ℕ)} {earlier handed all_handed : List Shown → Type 0} {result : Result Status Failed} (one : List ℕ → Status → Yield → Type 0) (ends : List ℕ → Status) (yields : List ℕ → Yield) → ((name : List ℕ) → one name (ends name) (yields name))
+pub tells_stopped : {a b : ShelfState} {before mid now : Option (List ℕ)} {earlier handed all_handed : List Shown → Type 0} {result : Result Status Failed} (one : List ℕ → Status → Yield → Type 0) (ends : Halt → List ℕ → Status) (yields : Halt → List ℕ → Yield) → ((name : List ℕ) → one name (ends no_halt name) (yields no_halt name))
     → Joins earlier handed all_handed → (names rest all : List (List ℕ)) (name : List ℕ) (first : Yield) (so_far : Status) → all ≡ names ++ name ∷ rest → is_done so_far ≡ true → InOrder one names names so_far first → Gives earlier before mid first → TellsYield (one name) handed mid now result
     → (IsDone result → ⊥) → Asks (names ++ name ∷ []) a b → TellsRun (InOrder one all) all_handed a b before now result
 unfolding InOrder
@@ -135,10 +154,10 @@ tells_stopped {a} {b} {before} {mid} {now} {earlier} {handed} {all_handed} {resu
     ])
   where
     after : Yield
-    after = in_order_yield ends yields rest
+    after = in_order_yield ends yields no_halt rest
 
-    goes_on : is_done t.ended ≡ true → InOrder one (name ∷ rest) (name ∷ in_order_read ends rest) (joined t.ended (in_order_status ends rest)) (with_more t.yields after)
-    goes_on goes = inr (in_order_read ends rest, t.ended, in_order_status ends rest, t.yields, after, goes, t.outcome, order_here one ends yields here rest, refl, refl, refl)
+    goes_on : is_done t.ended ≡ true → InOrder one (name ∷ rest) (name ∷ in_order_read ends no_halt rest) (joined t.ended (in_order_status ends no_halt rest)) (with_more t.yields after)
+    goes_on goes = inr (in_order_read ends no_halt rest, t.ended, in_order_status ends no_halt rest, t.yields, after, goes, t.outcome, order_here one ends yields here rest, refl, refl, refl)
 
     whole_at : (r : Result Status Failed) → joined so_far t.ended ≡ t.ended → IfOk r (λ s. s ≢ status.Memory → s ≢ status.WriteFault → (s ≡ t.ended) × Gives handed mid now t.yields)
         → IfOk r (λ s. s ≢ status.Memory → s ≢ status.WriteFault → (s ≡ joined so_far t.ended) × Gives all_handed before now (with_more first t.yields) × Asks (names ++ name ∷ []) a b)
@@ -152,10 +171,10 @@ tells_stopped {a} {b} {before} {mid} {now} {earlier} {handed} {all_handed} {resu
 
     went_on : is_done t.ended ≡ true → TellsRun (InOrder one (names ++ name ∷ rest)) all_handed a b before now result
     went_on goes = record {
-      came = names ++ name ∷ in_order_read ends rest;
-      ended = joined so_far (joined t.ended (in_order_status ends rest));
+      came = names ++ name ∷ in_order_read ends no_halt rest;
+      ended = joined so_far (joined t.ended (in_order_status ends no_halt rest));
       yields = with_more first (with_more t.yields after);
-      outcome = order_then one names (name ∷ rest) names (name ∷ in_order_read ends rest) so_far _ first _ done order (goes_on goes);
+      outcome = order_then one names (name ∷ rest) names (name ∷ in_order_read ends no_halt rest) so_far _ first _ done order (goes_on goes);
       whole = never result _ _ _ stopped goes t.whole;
       part = part_then join first (with_more t.yields after) gives (part_before t.yields after t.part);
     }
@@ -176,68 +195,193 @@ tells_done before mid now one names name first so_far ended join done goes order
     not_write : (s : Status) → is_done s ≡ true → s ≢ status.WriteFault
     not_write s goes e = let t : false ≡ true = ap is_done (sym e) ∙ goes in cc
 
-complete_order : (one : List ℕ → Status → Yield → Type 0) (ends : List ℕ → Status) (yields : List ℕ → Yield) → ((name : List ℕ) (ended : Status) (given : Yield) → one name ended given → (ended ≡ ends name) × (given ≡ yields name))
-    → (names read : List (List ℕ)) (ended : Status) (given : Yield) → InOrder one names read ended given → (read ≡ in_order_read ends names) × (ended ≡ in_order_status ends names) × (given ≡ in_order_yield ends yields names)
-unfolding InOrder in_order_read in_order_status in_order_yield
-complete_order one ends yields each [] read ended given order = order
-complete_order one ends yields each (name ∷ names) read ended given (inl (stops, came, outcome)) =
-    let same = each name ended given outcome in
-    let here : is_done (ends name) ≡ false = ap is_done (sym same.0) ∙ stops in
-    (rw here came, rw here same.0, rw here (same.1 ∙ sym (more_none (yields name))))
-complete_order one ends yields each (name ∷ names) read ended given (inr (others, first, rest, here, more, goes, outcome, order, came, is, all)) =
-    let same = each name first here outcome in
-    let on : is_done (ends name) ≡ true = ap is_done (sym same.0) ∙ goes in
-    let next = complete_order one ends yields each names others rest more order in (
-      rw on (came ∙ ap (λ (ns : List (List ℕ)). name ∷ ns) next.0),
-      rw on (is ∙ ap (λ (s : Status). joined s rest) same.0 ∙ ap (λ (s : Status). joined (ends name) s) next.1),
-      rw on (all ∙ ap (λ (y : Yield). with_more y more) same.1 ∙ ap (λ (y : Yield). with_more (yields name) y) next.2),
-    )
+-- ---- the read fault of a run
 
-pub plan_here : (plan : ReadPlan) (files : Files) (fault : Type 0) → PlanOutcome plan files fault (plan_read plan files) (plan_status plan files) (plan_yield plan files)
-plan_here plan files fault = order_here (one_outcome plan files fault) (one_status plan files) (one_yield plan files) (λ name. file_here (plan.report name) plan.limit (files name) fault) plan.names
+-- a read fault, with places counted from one file earlier
+abbrev pub one_later : Halt → Halt
+one_later no_halt = no_halt
+one_later (not_opened place) = not_opened (suc place)
+one_later (stopped_after place after) = stopped_after (suc place) after
 
-pub complete_plan : (plan : ReadPlan) (files : Files) (fault : Type 0) (came : List (List ℕ)) (ended : Status) (yields : Yield) → (fault → ⊥) → PlanOutcome plan files fault came ended yields → (came ≡ plan_read plan files) × (ended ≡ plan_status plan files) × (yields ≡ plan_yield plan files)
-complete_plan plan files fault came ended yields none o =
-    complete_order (one_outcome plan files fault) (one_status plan files) (one_yield plan files) (λ name s y outcome. complete_file (plan.report name) plan.limit (files name) fault s y none outcome) plan.names came ended yields o
+later_past : (halt : Halt) → past_first (one_later halt) ≡ halt
+later_past no_halt = refl
+later_past (not_opened place) = refl
+later_past (stopped_after place after) = refl
 
--- What a run yields, in three parts: first what the earlier files yield, then what the file `name` yields, then what
--- the later files yield.
-pub record IsAmong (one : List ℕ → Status → Yield → Type 0) (earlier : List (List ℕ)) (name : List ℕ) (yields : Yield) : Type 0 where
-  pub before : Yield
-  pub done : Status
-  pub others : InOrder one earlier earlier done before
-  pub here : Yield
+later_can : (limit : ℕ) (name : List ℕ) (names : List (List ℕ)) (files : Files) (fault : Type 0) (halt : Halt) → CanHalt limit names files fault halt → CanHalt limit (name ∷ names) files fault (one_later halt)
+later_can limit name names files fault no_halt can = can
+later_can limit name names files fault (not_opened place) can = can
+later_can limit name names files fault (stopped_after place after) can = can
+
+later_first : (plan : ReadPlan) (files : Files) (halt : Halt) (name : List ℕ) (told : Option (List ℕ)) → files name ≡ told
+    → (one_status plan files (one_later halt) name ≡ one_status plan files no_halt name) × (one_yield plan files (one_later halt) name ≡ one_yield plan files no_halt name)
+later_first plan files no_halt name told is = (refl, refl)
+later_first plan files (not_opened place) name None is = rw is (refl, refl)
+later_first plan files (not_opened place) name (Some bytes) is = rw is (refl, refl)
+later_first plan files (stopped_after place after) name None is = rw is (refl, refl)
+later_first plan files (stopped_after place after) name (Some bytes) is = rw is (refl, refl)
+
+-- a file whose reading a read fault stopped is not done
+abbrev pub StopsAll : ReadPlan → Type 0
+StopsAll plan = (name : List ℕ) (records : List Record) → is_done ((plan.report name).status records end.ReadFault) ≡ false
+
+-- The outcome of a run over files in order, as values that are determined by one of the read faults that fit.
+pub record OrderHalts (plan : ReadPlan) (files : Files) (fault : Type 0) (names read : List (List ℕ)) (ended : Status) (yields : Yield) : Type 0 where
+  pub halt : Halt
+  pub can : CanHalt plan.limit names files fault halt
+  pub read_is : read ≡ in_order_read (one_status plan files) halt names
+  pub ended_is : ended ≡ in_order_status (one_status plan files) halt names
+  pub yields_is : yields ≡ in_order_yield (one_status plan files) (one_yield plan files) halt names
+
+module _ (plan : ReadPlan) (files : Files) (fault : Type 0) (stops_all : StopsAll plan) where
+  refused_stops : (limit : ℕ) (report : Report) (told : Option (List ℕ)) → is_done (file_status report limit told (not_opened zero)) ≡ false
+  refused_stops limit report None = refl
+  refused_stops limit report (Some bytes) = refl
+
+  stopped_stops : (limit : ℕ) (report : Report) (told : Option (List ℕ)) (after : ℕ) → ((records : List Record) → is_done (report.status records end.ReadFault) ≡ false) → is_done (file_status report limit told (stopped_after zero after)) ≡ false
+  stopped_stops limit report None after stops = refl
+  stopped_stops limit report (Some bytes) after stops = stops (records_in (take after bytes))
+
+  -- the run ends with its first file
+  order_ends : (name : List ℕ) (names read : List (List ℕ)) (ended : Status) (yields : Yield) (halt : Halt) → CanHalt plan.limit (name ∷ names) files fault halt → is_done ended ≡ false → read ≡ name ∷ []
+      → ended ≡ one_status plan files halt name → yields ≡ one_yield plan files halt name → OrderHalts plan files fault (name ∷ names) read ended yields
+  unfolding in_order_read in_order_status in_order_yield
+  order_ends name names read ended yields halt can undone came is all =
+      let here : is_done (one_status plan files halt name) ≡ false = ap is_done (sym is) ∙ undone in
+      record { halt = halt; can = can; read_is = rw here came; ended_is = rw here is; yields_is = rw here (all ∙ sym (more_none (one_yield plan files halt name))) }
+
+  -- the run goes on after its first file
+  order_goes : (name : List ℕ) (names read others : List (List ℕ)) (ended first rest : Status) (yields here more : Yield) → OrderHalts plan files fault names others rest more → is_done first ≡ true
+      → first ≡ one_status plan files no_halt name → here ≡ one_yield plan files no_halt name → read ≡ name ∷ others → ended ≡ joined first rest → yields ≡ with_more here more → OrderHalts plan files fault (name ∷ names) read ended yields
+  unfolding in_order_read in_order_status in_order_yield
+  order_goes name names read others ended first rest yields here more next goes is all came joins whole =
+      let halt = one_later next.halt in
+      let past = later_past next.halt in
+      let same = later_first plan files next.halt name (files name) refl in
+      let is_first : first ≡ one_status plan files halt name = is ∙ sym same.0 in
+      let is_here : here ≡ one_yield plan files halt name = all ∙ sym same.1 in
+      let on : is_done (one_status plan files halt name) ≡ true = ap is_done (sym is_first) ∙ goes in
+      record {
+        halt = halt;
+        can = later_can plan.limit name names files fault next.halt next.can;
+        read_is = rw (on, past) (came ∙ ap (λ (ns : List (List ℕ)). name ∷ ns) next.read_is);
+        ended_is = rw (on, past) (joins ∙ ap (λ (s : Status). joined s rest) is_first ∙ ap (joined (one_status plan files halt name)) next.ended_is);
+        yields_is = rw (on, past) (whole ∙ ap (λ (y : Yield). with_more y more) is_here ∙ ap (with_more (one_yield plan files halt name)) next.yields_is);
+      }
+
+  order_first : (name : List ℕ) (names read : List (List ℕ)) (ended : Status) (yields : Yield) → is_done ended ≡ false → read ≡ name ∷ [] → FileOutcome (plan.report name) plan.limit (files name) fault ended yields
+      → OrderHalts plan files fault (name ∷ names) read ended yields
+  order_first name names read ended yields undone came (through is all) = order_ends name names read ended yields no_halt tt undone came is all
+  order_first name names read ended yields undone came (refused cause is all) = order_ends name names read ended yields (not_opened zero) cause undone came is all
+  order_first name names read ended yields undone came (halted after cause can is all) = order_ends name names read ended yields (stopped_after zero after) (cause, can) undone came is all
+
+  order_on : (name : List ℕ) (names read others : List (List ℕ)) (ended first rest : Status) (yields here more : Yield) → OrderHalts plan files fault names others rest more → is_done first ≡ true
+      → read ≡ name ∷ others → ended ≡ joined first rest → yields ≡ with_more here more → FileOutcome (plan.report name) plan.limit (files name) fault first here → OrderHalts plan files fault (name ∷ names) read ended yields
+  order_on name names read others ended first rest yields here more next goes came joins whole (through is all) = order_goes name names read others ended first rest yields here more next goes is all came joins whole
+  order_on name names read others ended first rest yields here more next goes came joins whole (refused cause is all) =
+      absurd (let t : false ≡ true = sym (refused_stops plan.limit (plan.report name) (files name)) ∙ ap is_done (sym is) ∙ goes in cc)
+  order_on name names read others ended first rest yields here more next goes came joins whole (halted after cause can is all) =
+      absurd (let t : false ≡ true = sym (stopped_stops plan.limit (plan.report name) (files name) after (stops_all name)) ∙ ap is_done (sym is) ∙ goes in cc)
+
+  pub order_halts : (names read : List (List ℕ)) (ended : Status) (yields : Yield) → InOrder (one_outcome plan files fault) names read ended yields → OrderHalts plan files fault names read ended yields
+  unfolding InOrder in_order_read in_order_status in_order_yield
+  order_halts [] read ended yields (none, is, all) = record { halt = no_halt; can = tt; read_is = none; ended_is = is; yields_is = all }
+  order_halts (name ∷ names) read ended yields (inl (stops, came, outcome)) = order_first name names read ended yields stops came outcome
+  order_halts (name ∷ names) read ended yields (inr (others, first, rest, here, more, goes, outcome, order, came, is, all)) =
+      order_on name names read others ended first rest yields here more (order_halts names others rest more order) goes came is all outcome
+
+-- without a read fault, no read fault ended the run
+pub never_halts : (limit : ℕ) (names : List (List ℕ)) (files : Files) (fault : Type 0) (halt : Halt) → (fault → ⊥) → CanHalt limit names files fault halt → halt ≡ no_halt
+never_halts limit names files fault no_halt none can = refl
+never_halts limit [] files fault (not_opened place) none can = absurd can
+never_halts limit [] files fault (stopped_after place after) none can = absurd can
+never_halts limit (name ∷ names) files fault (not_opened zero) none can = absurd (none can)
+never_halts limit (name ∷ names) files fault (stopped_after zero after) none can = absurd (none can.0)
+never_halts limit (name ∷ names) files fault (not_opened (suc place)) none can = absurd (let e = never_halts limit names files fault (not_opened place) none can in cc)
+never_halts limit (name ∷ names) files fault (stopped_after (suc place) after) none can = absurd (let e = never_halts limit names files fault (stopped_after place after) none can in cc)
+
+-- what a command with this plan did, if it gave out all that one of the possible outcomes of its files yields
+plan_halts : (plan : ReadPlan) (files : Files) (fault : Type 0) (came : List (List ℕ)) (ended : Status) (yields : Yield) → StopsAll plan → InOrder (one_outcome plan files fault) plan.names came ended yields → PlanOutcome plan files fault came ended yields
+plan_halts plan files fault came ended yields stops outcome =
+    let at = order_halts plan files fault stops plan.names came ended yields outcome in
+    (at.halt, at.can, same_run came _ ended _ yields _ None None at.read_is at.ended_is at.yields_is refl)
+
+pub tells_plan : {handed : List Shown → Type 0} {a b : ShelfState} {before now : Option (List ℕ)} {result : Result Status Failed} (plan : ReadPlan) (files : Files) (fault : Type 0) → StopsAll plan
+    → TellsRun (InOrder (one_outcome plan files fault) plan.names) handed a b before now result → TellsRun (PlanOutcome plan files fault) handed a b before now result
+tells_plan plan files fault stops to = record { came = to.came; ended = to.ended; yields = to.yields; outcome = plan_halts plan files fault to.came to.ended to.yields stops to.outcome; whole = to.whole; part = to.part }
+
+-- ---- a file among the files that a run reached
+
+first_done : (plan : ReadPlan) (files : Files) (halt : Halt) (name : List ℕ) (told : Option (List ℕ)) → StopsAll plan → files name ≡ told → is_done (file_status (plan.report name) plan.limit told halt) ≡ true
+    → (one_status plan files halt name ≡ one_status plan files no_halt name) × (one_yield plan files halt name ≡ one_yield plan files no_halt name)
+first_done plan files no_halt name told stops is done = (refl, refl)
+first_done plan files (not_opened place) name None stops is done = absurd cc
+first_done plan files (stopped_after place after) name None stops is done = absurd cc
+first_done plan files (not_opened zero) name (Some bytes) stops is done = absurd cc
+first_done plan files (not_opened (suc place)) name (Some bytes) stops is done = rw is (refl, refl)
+first_done plan files (stopped_after zero after) name (Some bytes) stops is done = absurd (let t : false ≡ true = sym (stops name (records_in (take after bytes))) ∙ done in cc)
+first_done plan files (stopped_after (suc place) after) name (Some bytes) stops is done = rw is (refl, refl)
+
+past_can : (limit : ℕ) (name : List ℕ) (names : List (List ℕ)) (files : Files) (fault : Type 0) (halt : Halt) → CanHalt limit (name ∷ names) files fault halt → CanHalt limit names files fault (past_first halt)
+past_can limit name names files fault no_halt can = can
+past_can limit name names files fault (not_opened zero) can = tt
+past_can limit name names files fault (not_opened (suc place)) can = can
+past_can limit name names files fault (stopped_after zero after) can = tt
+past_can limit name names files fault (stopped_after (suc place) after) can = can
+
+-- What a run yields, in three parts: first what the earlier files yield, all of which are done, then what the file
+-- `name` yields, then what the later files yield. `halt` is the run's read fault, with places counted from the file
+-- `name` on.
+pub record IsAmong (plan : ReadPlan) (files : Files) (fault : Type 0) (earlier : List (List ℕ)) (name : List ℕ) (yields : Yield) : Type 0 where
+  pub halt : Halt
+  pub rest : List (List ℕ)
+  pub can : CanHalt plan.limit (name ∷ rest) files fault halt
   pub after : Yield
-  pub ended : Status
-  pub outcome : one name ended here
-  pub split : yields ≡ with_more before (with_more here after)
+  pub done : is_done (in_order_status (one_status plan files) no_halt earlier) ≡ true
+  pub split : yields ≡ with_more (in_order_yield (one_status plan files) (one_yield plan files) no_halt earlier) (with_more (one_yield plan files halt name) after)
 
-pub among : (one : List ℕ → Status → Yield → Type 0) (names read earlier later : List (List ℕ)) (name : List ℕ) (ended : Status) (yields : Yield) → InOrder one names read ended yields → read ≡ earlier ++ name ∷ later → IsAmong one earlier name yields
-unfolding InOrder
-among one [] read [] later name ended yields order came = let e : [] ≡ name ∷ later = sym order.0 ∙ came in absurd cc
-among one [] read (other ∷ earlier) later name ended yields order came = let e : [] ≡ other ∷ (earlier ++ name ∷ later) = sym order.0 ∙ came in absurd cc
-among one (n ∷ ns) read [] later name ended yields (inl (stops, is, outcome)) came =
-    let e : n ∷ [] ≡ name ∷ later = sym is ∙ came in
+none_after : (earlier later : List (List ℕ)) (name : List ℕ) → [] ≡ earlier ++ name ∷ later → ⊥
+none_after [] later name e = absurd cc
+none_after (other ∷ earlier) later name e = absurd cc
+
+pub among : (plan : ReadPlan) (files : Files) (fault : Type 0) → StopsAll plan → (halt : Halt) (names earlier later : List (List ℕ)) (name : List ℕ) → CanHalt plan.limit names files fault halt
+    → in_order_read (one_status plan files) halt names ≡ earlier ++ name ∷ later → IsAmong plan files fault earlier name (in_order_yield (one_status plan files) (one_yield plan files) halt names)
+unfolding in_order_read in_order_status in_order_yield
+among plan files fault stops halt [] earlier later name can came = absurd (none_after earlier later name came)
+among plan files fault stops halt (n ∷ ns) [] later name can came =
     let same : n ≡ name = cc in
-    record { before = says []; done = status.Done; others = none_read one; here = yields; after = says []; ended = ended; outcome = subst (λ (it : List ℕ). one it ended yields) same outcome; split = sym (more_none yields) }
-among one (n ∷ ns) read (other ∷ []) later name ended yields (inl (stops, is, outcome)) came = let e : n ∷ [] ≡ other ∷ name ∷ later = sym is ∙ came in absurd cc
-among one (n ∷ ns) read (other ∷ another ∷ earlier) later name ended yields (inl (stops, is, outcome)) came = let e : n ∷ [] ≡ other ∷ another ∷ (earlier ++ name ∷ later) = sym is ∙ came in absurd cc
-among one (n ∷ ns) read [] later name ended yields (inr (others, first, rest, here, more, goes, outcome, order, is, joins, all)) came =
-    let e : n ∷ others ≡ name ∷ later = sym is ∙ came in
-    let same : n ≡ name = cc in
-    record { before = says []; done = status.Done; others = none_read one; here = here; after = more; ended = first; outcome = subst (λ (it : List ℕ). one it first here) same outcome; split = all }
-among one (n ∷ ns) read (other ∷ earlier) later name ended yields (inr (others, first, rest, here, more, goes, outcome, order, is, joins, all)) came =
-    let e : n ∷ others ≡ other ∷ (earlier ++ name ∷ later) = sym is ∙ came in
-    let same : others ≡ earlier ++ name ∷ later = cc in
-    let first_is : n ≡ other = cc in
-    let next = among one ns others earlier later name rest more order same in
     record {
-      before = with_more here next.before;
-      done = joined first next.done;
-      others = inr (earlier, first, next.done, here, next.before, goes, subst (λ (it : List ℕ). one it first here) first_is outcome, next.others, refl, refl, refl);
-      here = next.here;
-      after = next.after;
-      ended = next.ended;
-      outcome = next.outcome;
-      split = all ∙ ap (λ (y : Yield). with_more here y) next.split ∙ sym (more_more here next.before (with_more next.here next.after));
+      halt = halt;
+      rest = ns;
+      can = subst (λ (it : List ℕ). CanHalt plan.limit (it ∷ ns) files fault halt) same can;
+      after = if is_done (one_status plan files halt n) then in_order_yield (one_status plan files) (one_yield plan files) (past_first halt) ns else says [];
+      done = refl;
+      split = ap (λ (it : List ℕ). with_more (one_yield plan files halt it) (if is_done (one_status plan files halt n) then in_order_yield (one_status plan files) (one_yield plan files) (past_first halt) ns else says [])) same;
     }
+among plan files fault stops halt (n ∷ ns) (other ∷ earlier) later name can came =
+    elim (cases_Bool (is_done (one_status plan files halt n))) [
+      | inl on ↦
+          let e : n ∷ in_order_read (one_status plan files) (past_first halt) ns ≡ other ∷ (earlier ++ name ∷ later) = rw on at came in
+          let next = among plan files fault stops (past_first halt) ns earlier later name (past_can plan.limit n ns files fault halt can) (tail_same e) in
+          let first = first_done plan files halt n (files n) stops refl on in
+          let is : n ≡ other = head_same e in
+          let done_first : is_done (one_status plan files no_halt other) ≡ true = subst (λ (it : List ℕ). is_done (one_status plan files no_halt it) ≡ true) is (ap is_done (sym first.0) ∙ on) in
+          let yields_first : one_yield plan files halt n ≡ one_yield plan files no_halt other = first.1 ∙ ap (one_yield plan files no_halt) is in
+          let before = in_order_yield (one_status plan files) (one_yield plan files) no_halt earlier in
+          record {
+            halt = next.halt;
+            rest = next.rest;
+            can = next.can;
+            after = next.after;
+            done = rw done_first (all_done (one_status plan files no_halt other) (in_order_status (one_status plan files) no_halt earlier) done_first next.done);
+            split = rw (on, done_first) (ap (λ (y : Yield). with_more y (in_order_yield (one_status plan files) (one_yield plan files) (past_first halt) ns)) yields_first ∙ ap (with_more (one_yield plan files no_halt other)) next.split
+                ∙ sym (more_more (one_yield plan files no_halt other) before (with_more (one_yield plan files next.halt name) next.after)));
+          }
+      | inr off ↦ absurd (let e : n ∷ [] ≡ other ∷ (earlier ++ name ∷ later) = rw off at came in none_after earlier later name (tail_same e))
+    ]
+  where
+    head_same : {xs ys : List (List ℕ)} {x y : List ℕ} → x ∷ xs ≡ y ∷ ys → x ≡ y
+    head_same e = cc
+
+    tail_same : {xs ys : List (List ℕ)} {x y : List ℕ} → x ∷ xs ≡ y ∷ ys → xs ≡ ys
+    tail_same e = cc

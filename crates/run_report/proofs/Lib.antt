@@ -9,3 +9,4 @@ pub mod Runs
 pub mod Sending
 pub mod Files
 pub mod Yields
+pub mod RunReports

@@ -1,6 +1,8 @@
 pub mod Status
+pub mod Halt
 pub mod Frame
 pub mod Yield
+pub mod RunReport
 pub mod Outcome
 pub mod Reading
 pub mod Made

@@ -1,9 +1,9 @@
 -- Files that a command reads in order: the possible outcomes of one file, and of all files.
-use Rattle.std.specs.Prelude.{List, ◌≡◌, ℕ, Some, ◌⊎◌, Option, None, take, [], ◌∷◌, true, false, if◌then◌else◌, ◌^◌, ◌≤◌, IsSome, Result, Ok, Err, IfOk, OnErr, Bool, length}
+use Rattle.std.specs.Prelude.{zero, List, ◌≡◌, ℕ, Some, ◌⊎◌, Option, None, take, [], ◌∷◌, true, false, if◌then◌else◌, ◌^◌, ◌≤◌, IsSome, Result, Ok, Err, IfOk, OnErr, Bool, length}
 use Rattle.pcap_frames.specs.Capture.{Record}
 use Rattle.capture_io.specs.declared.end.End.{End}
 use Rattle.capture_io.specs.Formats.{records_in}
-use Rattle.capture_io.specs.Ends.{EndsAt, end_of, CountsFault}
+use Rattle.capture_io.specs.Ends.{end_of, CountsFault}
 use Rattle.avtp_text.specs.Notices.{read_fault_line}
 use Rattle.avtp_base.specs.Files.{Files, Slots}
 use Rattle.capture_io.specs.Source.{Sourcing, slot_of, to_do, GivesNext, HasGivenOf}
@@ -15,8 +15,11 @@ use Rattle.avtp_base.specs.Told.{Keeps}
 use Rattle.avtp_base.specs.Faults.{Rose}
 use Rattle.sample_schedule.specs.declared.shown.Shown.{Shown}
 use Rattle.run_report.specs.declared.status.Status.{Status}
+use Rattle.run_report.specs.RunReport.{Halts, RunReport}
+use Rattle.run_report.specs.Halt.{CanHalt, CanStop, Halt, no_halt, past_first, not_opened, stopped_after}
 use Rattle.run_report.specs.Yield.{Yield, says, with_more}
 use Rattle.run_report.specs.Outcome.{is_done, KeepsSink, CountsReading, TellsYield, IsDone, TellsRun}
+use Rattle.capture_io.specs.declared.end.End.TheVariants as end
 use Rattle.run_report.specs.declared.status.Status.TheVariants as status
 
 -- ---- one file
@@ -27,31 +30,29 @@ pub record Report : Type 0 where
   pub status : List Record → End → Status
   pub yields : List Record → End → Yield
 
--- A possible outcome of reading an open file that has these bytes. At most `limit` of the bytes are read.
-pub record ReadOutcome (report : Report) (limit : ℕ) (bytes : List ℕ) (fault : Type 0) (ended : Status) (yields : Yield) : Type 0 where
-  pub how : End
-  pub prefix : List ℕ
-  pub ends : EndsAt limit (Some bytes) fault how prefix
-  pub status : ended ≡ report.status (records_in prefix) how
-  pub given : yields ≡ report.yields (records_in prefix) how
+-- The status with which a file ends. The option holds the file's bytes, or is `None` if the file is missing. `halt` is
+-- the run's read fault, with places counted from this file on.
+abbrev pub file_status : Report → ℕ → Option (List ℕ) → Halt → Status
+file_status report limit None halt = status.ReadFault
+file_status report limit (Some bytes) (not_opened zero) = status.ReadFault
+file_status report limit (Some bytes) (stopped_after zero after) = report.status (records_in (take after bytes)) end.ReadFault
+file_status report limit (Some bytes) halt = report.status (records_in (take limit bytes)) (end_of limit bytes)
 
--- The possible outcomes of reading a file: the status, and what the command yields. The file is given by its bytes, or
--- by `None` if it is missing. Reading a missing file ends with a read fault. A read fault of a file that exists is
--- possible only if `fault` holds.
-abbrev pub FileOutcome : Report → ℕ → Option (List ℕ) → Type 0 → Status → Yield → Type 0
-FileOutcome report limit None fault ended yields = (ended ≡ status.ReadFault) × (yields ≡ says read_fault_line)
-FileOutcome report limit (Some bytes) fault ended yields =
-    ReadOutcome report limit bytes fault ended yields ⊎ (fault × (ended ≡ status.ReadFault) × (yields ≡ says read_fault_line))
+-- What a file yields. The option holds the file's bytes, or is `None` if the file is missing. `halt` is the run's read
+-- fault, with places counted from this file on.
+abbrev pub file_yield : Report → ℕ → Option (List ℕ) → Halt → Yield
+file_yield report limit None halt = says read_fault_line
+file_yield report limit (Some bytes) (not_opened zero) = says read_fault_line
+file_yield report limit (Some bytes) (stopped_after zero after) = report.yields (records_in (take after bytes)) end.ReadFault
+file_yield report limit (Some bytes) halt = report.yields (records_in (take limit bytes)) (end_of limit bytes)
 
--- a file's status if no read fault occurs; the option holds the file's bytes, or is `None` if the file is missing
-abbrev pub file_status : Report → ℕ → Option (List ℕ) → Status
-file_status report limit None = status.ReadFault
-file_status report limit (Some bytes) = report.status (records_in (take limit bytes)) (end_of limit bytes)
-
--- What a file yields if no read fault occurs. The option holds the file's bytes, or is `None` if the file is missing.
-abbrev pub file_yield : Report → ℕ → Option (List ℕ) → Yield
-file_yield report limit None = says read_fault_line
-file_yield report limit (Some bytes) = report.yields (records_in (take limit bytes)) (end_of limit bytes)
+-- A file's outcome: its status and what it yields, for a read fault that is possible in this file, or for none.
+pub data FileOutcome (report : Report) (limit : ℕ) (told : Option (List ℕ)) (fault : Type 0) (ended : Status) (yields : Yield) : Type 0 where
+  through : ended ≡ file_status report limit told no_halt → yields ≡ file_yield report limit told no_halt → FileOutcome report limit told fault ended yields
+  refused : fault → ended ≡ file_status report limit told (not_opened zero) → yields ≡ file_yield report limit told (not_opened zero)
+      → FileOutcome report limit told fault ended yields
+  halted : (after : ℕ) → fault → CanStop limit told after → ended ≡ file_status report limit told (stopped_after zero after)
+      → yields ≡ file_yield report limit told (stopped_after zero after) → FileOutcome report limit told fault ended yields
 
 -- ---- files in order
 
@@ -61,31 +62,23 @@ abbrev pub joined : Status → Status → Status
 joined first status.Done = first
 joined first rest = rest
 
--- Files are read in order. The first file that does not end with `Done` or `Findings` ends the run. `One name` gives
--- the possible outcomes of the file `name`. The list `read` has the names of the files that the run reached.
-unfoldable pub InOrder : (List ℕ → Status → Yield → Type 0) → List (List ℕ) → List (List ℕ) → Status → Yield → Type 0
-InOrder One [] read ended yields = (read ≡ []) × (ended ≡ status.Done) × (yields ≡ says [])
-InOrder One (name ∷ names) read ended yields =
-    ((is_done ended ≡ false) × (read ≡ name ∷ []) × One name ended yields)
-    ⊎ ((others : List (List ℕ)) × (first : Status) × (rest : Status) × (here : Yield) × (more : Yield)
-    × (is_done first ≡ true) × One name first here × InOrder One names others rest more
-    × (read ≡ name ∷ others) × (ended ≡ joined first rest) × (yields ≡ with_more here more))
-
--- the files that a run reaches, given the status of each: all files up to and including the first file that does not
--- end with `Done` or `Findings`
-unfoldable pub in_order_read : (List ℕ → Status) → List (List ℕ) → List (List ℕ)
-in_order_read one [] = []
-in_order_read one (name ∷ names) = name ∷ (if is_done (one name) then in_order_read one names else [])
+-- The files that a run reaches: all files up to and including the first file that does not end with `Done` or
+-- `Findings`. `one` gives the status of each file, given the run's read fault with places counted from this file on.
+unfoldable pub in_order_read : (Halt → List ℕ → Status) → Halt → List (List ℕ) → List (List ℕ)
+in_order_read one halt [] = []
+in_order_read one halt (name ∷ names) = name ∷ (if is_done (one halt name) then in_order_read one (past_first halt) names else [])
 
 -- the status of a run over files in order, given the status of each
-unfoldable pub in_order_status : (List ℕ → Status) → List (List ℕ) → Status
-in_order_status one [] = status.Done
-in_order_status one (name ∷ names) = if is_done (one name) then joined (one name) (in_order_status one names) else one name
+unfoldable pub in_order_status : (Halt → List ℕ → Status) → Halt → List (List ℕ) → Status
+in_order_status one halt [] = status.Done
+in_order_status one halt (name ∷ names) =
+    if is_done (one halt name) then joined (one halt name) (in_order_status one (past_first halt) names) else one halt name
 
 -- what a run over files in order yields, given the status and the yield of each
-unfoldable pub in_order_yield : (List ℕ → Status) → (List ℕ → Yield) → List (List ℕ) → Yield
-in_order_yield one yields [] = says []
-in_order_yield one yields (name ∷ names) = with_more (yields name) (if is_done (one name) then in_order_yield one yields names else says [])
+unfoldable pub in_order_yield : (Halt → List ℕ → Status) → (Halt → List ℕ → Yield) → Halt → List (List ℕ) → Yield
+in_order_yield one yields halt [] = says []
+in_order_yield one yields halt (name ∷ names) =
+    with_more (yields halt name) (if is_done (one halt name) then in_order_yield one yields (past_first halt) names else says [])
 
 -- ---- a command
 
@@ -96,33 +89,26 @@ pub record ReadPlan : Type 0 where
   pub limit : ℕ
   pub report : List ℕ → Report
 
--- the possible outcomes of the file with this name, given the files of a shelf
-abbrev pub one_outcome : ReadPlan → Files → Type 0 → List ℕ → Status → Yield → Type 0
-one_outcome plan files fault name ended yields = FileOutcome (plan.report name) plan.limit (files name) fault ended yields
+-- the status with which the file of this name ends
+abbrev pub one_status : ReadPlan → Files → Halt → List ℕ → Status
+one_status plan files halt name = file_status (plan.report name) plan.limit (files name) halt
 
--- the possible outcomes of a command with this plan: the files that it reaches, its status, and what it yields
+-- what the file of this name yields
+abbrev pub one_yield : ReadPlan → Files → Halt → List ℕ → Yield
+one_yield plan files halt name = file_yield (plan.report name) plan.limit (files name) halt
+
+-- what a command with this plan does
+abbrev pub plan_report : ReadPlan → Files → Halt → RunReport
+plan_report plan files halt = record {
+  came = in_order_read (one_status plan files) halt plan.names;
+  ended = in_order_status (one_status plan files) halt plan.names;
+  yields = in_order_yield (one_status plan files) (one_yield plan files) halt plan.names;
+  made = None;
+}
+
+-- what a command with this plan did, under one of the read faults that are possible
 abbrev pub PlanOutcome : ReadPlan → Files → Type 0 → List (List ℕ) → Status → Yield → Type 0
-PlanOutcome plan files fault read ended yields = InOrder (one_outcome plan files fault) plan.names read ended yields
-
--- the status with which the file of this name ends, if no read fault occurs
-abbrev pub one_status : ReadPlan → Files → List ℕ → Status
-one_status plan files name = file_status (plan.report name) plan.limit (files name)
-
--- what the file of this name yields, if no read fault occurs
-abbrev pub one_yield : ReadPlan → Files → List ℕ → Yield
-one_yield plan files name = file_yield (plan.report name) plan.limit (files name)
-
--- the files that a command with this plan reaches, if no read fault occurs
-abbrev pub plan_read : ReadPlan → Files → List (List ℕ)
-plan_read plan files = in_order_read (one_status plan files) plan.names
-
--- if no read fault occurs, a command with this plan ends with this status
-abbrev pub plan_status : ReadPlan → Files → Status
-plan_status plan files = in_order_status (one_status plan files) plan.names
-
--- what a command with this plan yields, if no read fault occurs
-abbrev pub plan_yield : ReadPlan → Files → Yield
-plan_yield plan files = in_order_yield (one_status plan files) (one_yield plan files) plan.names
+PlanOutcome plan files fault came ended yields = Halts (CanHalt plan.limit plan.names files fault) (plan_report plan files) came ended yields None
 
 -- ---- an open capture
 

@@ -30,9 +30,9 @@ use Rattle.run_report.proofs.Making.{kept_but, slots_but, asks_from, files_from,
 use Rattle.run_report.proofs.Runs.{no_devices, through_as}
 use Rattle.run_report.proofs.Outcomes.{counts_unopened, tells_unopened, tells_weaker, text_telling, unopened_other, unopened_undone}
 use Rattle.run_report.specs.declared.status.Status.TheVariants as status
-use Rattle.talk_command.specs.Talk.{talk_task, talk_came, talk_made, TalkOutcome, talk_plan, talk_report, talk_status, TalkedOutcome}
-use Rattle.talk_command.specs.state.Talk.{Makes, OutcomeWith, FaultStops, WritesOnly}
-use Rattle.talk_command.proofs.TalkOutcomes.{talk_here}
+use Rattle.talk_command.specs.Talk.{talk_task, talk_plan}
+use Rattle.talk_command.specs.state.Talk.{talk_came, talk_made, TalkOutcome, TalkedOutcome, Makes, OutcomeWith, FaultStops, WritesOnly}
+use Rattle.talk_command.proofs.TalkOutcomes.{talk_halts, talk_here}
 use Rattle.talk_command.proofs.Talked.{makes_after, makes_none, read_counted, talks_unopened, tells_caused, tells_since}
 
 -- ---- the names that were asked for
@@ -69,7 +69,7 @@ talk_tells {all} {a} {b} {before} {now} {result} asked fault came tells makes = 
     came = talk_came asked tells.ended;
     ended = tells.ended;
     yields = says tells.yields;
-    outcome = (refl, tells.outcome.0, refl, refl);
+    outcome = talk_halts asked told fault tells.ended (says tells.yields) refl tells.outcome.0;
     whole = whole_at result came tells.whole;
     part = part_text refl (says tells.yields) tells.part;
   };
@@ -118,13 +118,14 @@ pub unopened_runs : {s t : ShelfState} {h h' : SinkState} {l l' : List ℕ} {res
     → Runs (talk_task asked) HandsNothing false s t h h' l l' result
 unopened_runs {s} {t} {h} {h'} {l} {l'} {result} asked why missing counts keeps ends =
     let plan = talk_plan asked in
+    let here = λ (all : Files). talk_here plan (all asked.input) (Rose s.reading_faults t.reading_faults) in
     let not_done = unopened_other why status.Done (λ e. cc) (λ e. cc) ends in
     let not_failed = unopened_other why status.WriteFault (λ e. cc) (λ e. cc) ends in
     let not_device = unopened_other why status.DeviceFault (λ e. cc) (λ e. cc) ends in
     record {
       tells = λ all told some. talk_tells asked (Rose s.reading_faults t.reading_faults) (came_unopened s t asked result keeps.asked (unopened_undone why result ends))
           (tells_weaker (λ ended text o. (o, λ other. keeps.files))
-          (tells_unopened {T = Contents} {Outcome = TalkOutcome plan (all asked.input) (Rose s.reading_faults t.reading_faults)} why s.reading_faults t.reading_faults s.files asked.input (talk_status plan (all asked.input)) (talk_report plan (all asked.input)) (text_telling (written h.held l) (written h'.held l') read_fault_line) (talk_here plan (all asked.input) (Rose s.reading_faults t.reading_faults))
+          (tells_unopened {T = Contents} {Outcome = TalkOutcome plan (all asked.input) (Rose s.reading_faults t.reading_faults)} why s.reading_faults t.reading_faults s.files asked.input (here all).0 (here all).1 (text_telling (written h.held l) (written h'.held l') read_fault_line) (here all).2
           (λ cause. talks_unopened plan s.reading_faults t.reading_faults s.files asked.input all told cause) (read_counted counts) missing ends))
           (λ bytes is. makes_after keeps.files (makes_none t.files result not_done));
       files = kept_but s.files t.files asked.output keeps.files;

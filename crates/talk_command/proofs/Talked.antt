@@ -28,9 +28,9 @@ use Rattle.run_report.specs.Endings.{unmade_as}
 use Rattle.run_report.specs.Made.{KeepsFilesBut, CountsWriting}
 use Rattle.run_report.proofs.Outcomes.{IsCut, undone_by, tells_cut, tells_line, ends_not, ok_same, undone_as, tells_weaker, missing_none, Unopened}
 use Rattle.run_report.specs.declared.status.Status.TheVariants as status
-use Rattle.talk_command.specs.state.Talk.{MakesFile, Makes, WritesOnly, EndsRefused, OutcomeWith, FaultStops}
-use Rattle.talk_command.specs.Talk.{line_by, status_by, TalkedOutcome, TalkOutcome}
-use Rattle.talk_command.proofs.TalkOutcomes.{talks_by}
+use Rattle.talk_command.specs.state.Talk.{TalkedOutcome, TalkOutcome, MakesFile, Makes, WritesOnly, EndsRefused, OutcomeWith, FaultStops}
+use Rattle.avtp_text.specs.Talk.{talk_input_line}
+use Rattle.talk_command.proofs.TalkOutcomes.{talked_here}
 
 -- ---- names
 
@@ -167,10 +167,10 @@ tells_refused {h} {h'} {w} {w'} {result = result} plan bytes cause why fits only
     elim (memory_or why) [
       | inl is ↦
           let left = ends.memory is in
-          let known : Option TalkFault = fault_of plan bytes in
-          tells_cut (status_by known) (line_by known plan bytes) (talks_by plan bytes cause known fits refl) (subst IsCut (sym left.0) (inl refl)) (prefix_none (written h.held w) (written h'.held w') (line_by known plan bytes) left.1)
+          let here = talked_here plan bytes cause in
+          tells_cut here.0 here.1 here.2 (subst IsCut (sym left.0) (inl refl)) (prefix_none (written h.held w) (written h'.held w') here.1 left.1)
       | inr other ↦ elim only [
-        | inl is ↦ tells_line (talks_by plan bytes cause (Some why) fits is) (ends.other other)
+        | inl is ↦ let refused : TalkedOutcome plan bytes cause status.TalkInput (talk_input_line why) = (fits, (why, is, refl)) in tells_line refused (ends.other other)
         | inr memory ↦ absurd (other memory)
       ]
     ]

@@ -1,5 +1,5 @@
 -- Only private functions and proofs use these definitions. The outcome of a run of any command.
-use Rattle.std.specs.Prelude.{◌≡◌, ◌≢◌, ◌⊎◌, ℕ, ◌≤◌, List, [], Result, Ok, IsErr, ◌^◌}
+use Rattle.std.specs.Prelude.{Bool, Option, ◌≡◌, ◌≢◌, ◌⊎◌, ℕ, ◌≤◌, List, [], Result, Ok, IsErr, ◌^◌}
 use Rattle.avtp_base.specs.declared.failed.Failed.{Failed}
 use Rattle.avtp_base.specs.Faults.{Rose}
 use Rattle.avtp_base.specs.States.{SinkState}
@@ -10,11 +10,14 @@ use Rattle.talk_plan.specs.Plan.{IsPlan}
 use Rattle.run_report.specs.declared.status.Status.{Status}
 use Rattle.run_report.specs.declared.status.Status.TheVariants as status
 use Rattle.run_report.specs.Runs.{Task}
+use Rattle.avtp_base.specs.Files.{Files}
+use Rattle.run_report.specs.RunReport.{Halts}
+use Rattle.run_report.specs.Yield.{Yield}
 use Rattle.listen_command.specs.Listen.{IsListening}
 use Rattle.agree_command.specs.Agree.{IsAgreeing}
 use Rattle.gateway_command.specs.Gateway.{IsTurning}
 use Rattle.talk_command.specs.Talk.{talk_plan}
-use Rattle.avtp_tool.specs.Run.{again_of, is_listening, Outcome}
+use Rattle.avtp_tool.specs.Run.{again_of, CanEndWith, is_listening, report_for}
 
 -- The pending text was written, and the run ends with the status `result`. If the sink took everything, `result` is the
 -- run's own status. If the sink did not take everything, `result` is `WriteFault`. The sink keeps what it held, and got
@@ -26,6 +29,10 @@ pub record Finishes (out out' : SinkState) (waits waits' : List ℕ) (ended : Re
   pub never_falls : out.faults ≤ out'.faults
   pub fault : result ≡ status.WriteFault → IsErr ended ⊎ ((ended ≡ Ok status.WriteFault) ⊎ Rose out.faults out'.faults)
   pub quiet : result ≢ status.WriteFault → out'.faults ≡ out.faults
+
+-- what a run of the request over these files did, under one of the read faults that are possible
+abbrev pub Outcome : Request → Files → Type 0 → Bool → List (List ℕ) → Status → Yield → Option (List ℕ) → Type 0
+Outcome request files fault failed came ended yields made = Halts (CanEndWith request files fault) (report_for request files failed) came ended yields made
 
 -- what a request asks a command to do
 abbrev pub task_of : Request → Task

@@ -17,6 +17,7 @@ use Rattle.capture_io.specs.Ends.{CountsFault}
 use Rattle.capture_io.specs.Reads.{ReadsSlot}
 use Rattle.run_report.specs.Listener.{plan_of}
 use Rattle.run_report.specs.Reading.{file_yield}
+use Rattle.run_report.specs.Halt.{no_halt}
 use Rattle.run_report.specs.Yield.{GivesPart}
 use Rattle.run_report.specs.Outcome.{KeepsSink}
 use Rattle.capture_hearing.specs.Shown.{shown_by}
@@ -41,8 +42,8 @@ pub record HasHeard (asked : Listening) (handed : List Shown → Type 0) (name b
 -- The records were heard. If memory ran out or the sink failed, only a part of what the file yields was given out.
 abbrev pub HearsRecords : Listening → (List Shown → Type 0) → List ℕ → List ℕ → Type 0 → Option (List ℕ) → Option (List ℕ) → Result Heard Failed → Type 0
 HearsRecords asked handed name bytes fault before now (Ok (Ended how counts)) = HasHeard asked handed name bytes fault how counts before now
-HearsRecords asked handed name bytes fault before now (Ok NoMemory) = GivesPart handed before now (file_yield (listen_report asked name) asked.listener.limit (Some bytes))
-HearsRecords asked handed name bytes fault before now (Err e) = GivesPart handed before now (file_yield (listen_report asked name) asked.listener.limit (Some bytes))
+HearsRecords asked handed name bytes fault before now (Ok NoMemory) = GivesPart handed before now (file_yield (listen_report asked name) asked.listener.limit (Some bytes) no_halt)
+HearsRecords asked handed name bytes fault before now (Err e) = GivesPart handed before now (file_yield (listen_report asked name) asked.listener.limit (Some bytes) no_halt)
 
 -- how the reading of the records ended, if it ended
 abbrev pub heard_end : Heard → Option End

@@ -1,5 +1,5 @@
 -- Only private functions and proofs use these definitions. What `talk` prints and how it ends.
-use Rattle.std.specs.Prelude.{◌≡◌, ◌≢◌, ℕ, List, Option, Result, Ok, IfOk, [], ◌∷◌, IsErrOf, IsOk, OnErr, OnOk, slice_get, Some, if◌then◌else◌}
+use Rattle.std.specs.Prelude.{None, length, ◌≤◌, ◌<◌, ◌≡◌, ◌≢◌, ℕ, List, Option, Result, Ok, IfOk, [], ◌∷◌, IsErrOf, IsOk, OnErr, OnOk, slice_get, Some, if◌then◌else◌}
 use Rattle.avtp_base.specs.declared.failed.Failed.{Failed}
 use Rattle.avtp_base.specs.Files.{Files, KeepsFiles, PutsFile}
 use Rattle.capture_io.specs.Writing.{MakesPrefix, KeepsSlotsBut}
@@ -16,6 +16,9 @@ use Rattle.talk_plan.specs.declared.plan.TalkPlan.{TalkPlan}
 use Rattle.talk_plan.specs.Plan.{most_input}
 use Rattle.talk_plan.specs.declared.fault.TalkFault.{TalkFault}
 use Rattle.avtp_text.specs.Talk.{talk_input_line}
+use Rattle.avtp_text.specs.Notices.{limit_line, read_fault_line}
+use Rattle.avtp_words.specs.Grammar.{Talking as Asked}
+use Rattle.talker.specs.Faults.{fault_of}
 use Rattle.avtp_base.specs.Told.{Keeps}
 use Rattle.avtp_base.specs.declared.failed.OpenFault.TheVariants as open_fault
 use Rattle.capture_io.specs.declared.end.Stop.TheVariants as stop
@@ -24,7 +27,36 @@ use Rattle.run_report.specs.declared.status.Status.{Status}
 use Rattle.run_report.specs.Outcome.{AsksFor, is_done, IsDone, KeepsSink, TellsText, EndsWith}
 use Rattle.run_report.specs.Made.{frame_bytes, KeepsFilesBut, CountsWriting}
 use Rattle.run_report.specs.declared.status.Status.TheVariants as status
-use Rattle.talk_command.specs.Talk.{TalkedOutcome}
+use Rattle.talk_command.specs.Talk.{sent_line, talk_plan}
+
+-- ---- an outcome
+
+-- The possible outcomes of `talk` for an input of these bytes: its status, and the text that it prints. A read fault is
+-- possible only if `fault` holds.
+abbrev pub TalkedOutcome : TalkPlan → List ℕ → Type 0 → Status → List ℕ → Type 0
+TalkedOutcome plan bytes fault status.Done text = (length bytes ≤ most_input) × (fault_of plan bytes ≡ None) × (text ≡ sent_line plan bytes)
+TalkedOutcome plan bytes fault status.TalkInput text =
+    (length bytes ≤ most_input) × ((why : TalkFault) × (fault_of plan bytes ≡ Some why) × (text ≡ talk_input_line why))
+TalkedOutcome plan bytes fault status.Limit text = (most_input < length bytes) × (text ≡ limit_line most_input)
+TalkedOutcome plan bytes fault status.ReadFault text = fault × (text ≡ read_fault_line)
+TalkedOutcome plan bytes fault ended text = ⊥
+
+-- The possible outcomes of `talk`. The option holds the bytes of the input, or is `None` if the input is missing. A
+-- missing input results in a read fault.
+abbrev pub TalkOutcome : TalkPlan → Option (List ℕ) → Type 0 → Status → List ℕ → Type 0
+TalkOutcome plan None fault ended text = (ended ≡ status.ReadFault) × (text ≡ read_fault_line)
+TalkOutcome plan (Some bytes) fault ended text = TalkedOutcome plan bytes fault ended text
+
+-- the capture that a run of `talk` makes, given its input and its status; `None` if it makes none
+abbrev pub talk_made : TalkPlan → Option (List ℕ) → Status → Option (List ℕ)
+talk_made plan (Some bytes) status.Done = Some (capture plan bytes)
+talk_made plan told ended = None
+
+-- the names that a run of `talk` with this status asks for: its input, and its output only if the output was made
+abbrev pub talk_came : Asked → Status → List (List ℕ)
+talk_came asked ended = asked.input ∷ (if is_done ended then asked.output ∷ [] else [])
+
+-- ---- what becomes of the output
 
 -- What becomes of the file `name`, given the result of a run that has to make this file. If everything was done, the
 -- file has these bytes. If memory ran out or a write failed, the file is unchanged or has a prefix of these bytes. If

@@ -32,14 +32,14 @@ returns-in-Ok-Show-clause-runs g c request line =
     let limit = c.in-Ok-Show.limit in
     let file = c.in-Ok-Show.file.now in
     let same = rw c.in-Ok-Show.field-0-is at (c.in-Ok-Show.ensures.only request line) in
-    runs_deaf request (ap is_listening (sym same)) (hands_nothing g.D.Devices.handed _) (reading_runs (show limit file) false request same (λ all fault failed came ended yields o. (o, refl)) refl refl refl refl (one_file (show_plan limit file) file refl c.show.ensures))
+    runs_deaf request (ap is_listening (sym same)) (hands_nothing g.D.Devices.handed _) (reading_runs (show limit file) false request same (λ all fault failed came ended yields o. o) refl refl refl refl (one_file (show_plan limit file) file (λ name records. refl) refl c.show.ensures))
 
 pub returns-in-Ok-Check-clause-runs : goal.returns-in-Ok-Check-clause-runs
 returns-in-Ok-Check-clause-runs g c request line =
     let limit = c.in-Ok-Check.limit in
     let names = texts c.in-Ok-Check.files.now in
     let same = rw c.in-Ok-Check.field-0-is at (c.in-Ok-Check.ensures.only request line) in
-    reading_runs (check limit names) _ request same (λ all fault failed came ended yields o. (o, refl)) refl refl refl refl c.read_files.ensures.does
+    reading_runs (check limit names) _ request same (λ all fault failed came ended yields o. o) refl refl refl refl c.read_files.ensures.does
 
 pub returns-in-Ok-Check-clause-words : goal.returns-in-Ok-Check-clause-words
 returns-in-Ok-Check-clause-words g c position offence = absurd (not_offence c.parse.result _ position (c.parse.ensures.only_offence position offence) c.in-Ok-Check.is)
@@ -75,7 +75,7 @@ pub returns-in-Ok-Agree-clause-runs : goal.returns-in-Ok-Agree-clause-runs
 returns-in-Ok-Agree-clause-runs g c request line =
     let same = rw c.in-Ok-Agree.field-0-is at (c.in-Ok-Agree.ensures.only request line) in
     runs_deaf request (ap is_listening (sym same)) (hands_nothing g.D.Devices.handed _)
-    (reading_runs (agree (agreeing_of c.in-Ok-Agree.asked)) false request same (λ all fault failed came ended yields o. (o, refl)) refl refl refl refl c.agree.ensures)
+    (reading_runs (agree (agreeing_of c.in-Ok-Agree.asked)) false request same (λ all fault failed came ended yields o. o) refl refl refl refl c.agree.ensures)
 
 pub gateway-requires : goal.gateway-requires
 gateway-requires g c = requested (texts c.args.words.now) (gateway (turning_of c.in-Ok-Gateway.asked)) (rw c.in-Ok-Gateway.field-0-is at c.in-Ok-Gateway.ensures.found)
