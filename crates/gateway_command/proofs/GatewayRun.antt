@@ -75,9 +75,11 @@ turned asked files fault bytes prefix end.Whole is can ends = (no_halt, tt, rw (
 turned asked files fault bytes prefix (end.Refused refusal) is can ends = absurd (let e : end.Refused refusal ≡ end.Whole = ends.0 ∙ can.whole in cc)
 turned asked files fault bytes prefix end.Limit is can ends = absurd (let e : end.Limit ≡ end.Whole = ends.0 ∙ can.whole in cc)
 turned asked files fault bytes prefix end.ReadFault is can ends =
-    let at = stopped_at asked.listener.limit bytes prefix fault ends in
-    (stopped_after (suc zero) (length prefix), (at.1, rw is at.2),
-      rw (is, can.none, can.whole) (ap (λ (p : List ℕ). turned_by asked (shape_asked asked (records_of asked bytes)) (batches_by asked (records_in p) end.ReadFault) end.ReadFault) at.0))
+    let at = stopped_at asked.listener.limit bytes prefix fault ends in (
+      stopped_after (suc zero) (length prefix),
+      (at.1, rw is at.2),
+      rw (is, can.none, can.whole) (ap (λ (p : List ℕ). turned_by asked (shape_asked asked (records_of asked bytes)) (batches_by asked (records_in p) end.ReadFault) end.ReadFault) at.0),
+    )
 
 -- ---- what the capture keeps
 
