@@ -5,7 +5,6 @@ use Rattle.std.proofs.lemmas.Bool.{eqb-true}
 use Rattle.std.specs.List.{AllByRecursion}
 use Rattle.capture_io.specs.declared.end.End.{End}
 use Rattle.capture_io.specs.Ends.{EndsAt, end_of}
-use Rattle.capture_io.proofs.Ending.{ends_here}
 use Rattle.avtp_base.specs.Files.{Files}
 use Rattle.capture_io.specs.Formats.{records_in}
 use Rattle.am824_gateway.specs.Scan.{FaultAt, IsShape}
@@ -23,7 +22,6 @@ use Rattle.gateway_laws.proofs.Timely.{due_in_time, shown_in_time}
 use Rattle.am824_gateway.proofs.Scanned.{scanned_fits}
 use Rattle.gateway_laws.proofs.Kept.{all_kept}
 use Rattle.capture_io.specs.declared.end.End.TheVariants as end
-use Rattle.run_report.specs.declared.status.Status.{Status}
 use Rattle.run_report.specs.Endings.{IsUnopened, side_line}
 use Rattle.run_report.specs.Status.{status_of}
 use Rattle.run_report.proofs.OneFile.{stopped_at, stops_here}
@@ -75,9 +73,11 @@ turned asked files fault bytes prefix end.Whole is can ends = (no_halt, tt, rw (
 turned asked files fault bytes prefix (end.Refused refusal) is can ends = absurd (let e : end.Refused refusal ≡ end.Whole = ends.0 ∙ can.whole in cc)
 turned asked files fault bytes prefix end.Limit is can ends = absurd (let e : end.Limit ≡ end.Whole = ends.0 ∙ can.whole in cc)
 turned asked files fault bytes prefix end.ReadFault is can ends =
-    let at = stopped_at asked.listener.limit bytes prefix fault ends in
-    (stopped_after (suc zero) (length prefix), (at.1, rw is at.2),
-      rw (is, can.none, can.whole) (ap (λ (p : List ℕ). turned_by asked (shape_asked asked (records_of asked bytes)) (batches_by asked (records_in p) end.ReadFault) end.ReadFault) at.0))
+    let at = stopped_at asked.listener.limit bytes prefix fault ends in (
+      stopped_after (suc zero) (length prefix),
+      (at.1, rw is at.2),
+      rw (is, can.none, can.whole) (ap (λ (p : List ℕ). turned_by asked (shape_asked asked (records_of asked bytes)) (batches_by asked (records_in p) end.ReadFault) end.ReadFault) at.0),
+    )
 
 -- ---- what the capture keeps
 
