@@ -32,7 +32,7 @@ use Rattle.run_report.specs.declared.status.Status.{Status}
 use Rattle.run_report.specs.Outcome.{TellsRun, EndsWith, TellsYield, CountsReading, EndsUnopened, KeepsSink}
 use Rattle.run_report.specs.Yield.{HandsNothing, says, Gives, Yield}
 use Rattle.run_report.specs.RunReport.{ends_unread, run_of}
-use Rattle.run_report.specs.Halt.{Halt, CanHalt, no_halt, not_opened, stopped_after}
+use Rattle.run_report.specs.Halt.{no_halt, not_opened, stopped_after}
 use Rattle.run_report.proofs.OneFile.{stopped_at}
 use Rattle.capture_io.specs.Ends.{EndsAt}
 use Rattle.run_report.proofs.Outcomes.{IsCut, tells_cut, tells_end, missing_none, tells_last, yield_telling, counts_unopened, unopened_own, unopened_undone, counts_by, sink_then, counts_memory, sink_ok, counts_failed, sink_err}

@@ -1,5 +1,5 @@
 -- What `agree` prints and how it ends.
-use Rattle.std.specs.Prelude.{zero, suc, ℕ, List, flat_map, ◌++◌, ◌==◌, if◌then◌else◌, take, true, false, ◌≡◌, [], ◌∷◌, Some, IsSome, Option, None, Any, slice_get, ◌^◌, ◌≤◌}
+use Rattle.std.specs.Prelude.{zero, suc, ℕ, List, flat_map, ◌++◌, ◌==◌, if◌then◌else◌, take, true, false, ◌≡◌, [], ◌∷◌, Some, Option, None, Any, slice_get, ◌^◌, ◌≤◌}
 use Rattle.std.specs.List.{AllByRecursion}
 use Rattle.listener_pair.specs.declared.difference.Way.{Way}
 use Rattle.listener_pair.specs.declared.difference.Way.TheVariants.{Count, At, Bytes}
@@ -13,7 +13,7 @@ use Rattle.listener.specs.Heard.{shown_of, due_of, schedule_plan}
 use Rattle.listener.specs.Laws.{presented_of, IsOfPacket, by_clock}
 use Rattle.avtp_words.specs.Grammar.{Agreeing}
 use Rattle.listener_pair.specs.Merged.{Sided, merged, known}
-use Rattle.capture_io.specs.Ends.{end_of, EndsAt}
+use Rattle.capture_io.specs.Ends.{end_of}
 use Rattle.listener_pair.specs.Differences.{counts_of, differences}
 use Rattle.avtp_text.specs.Notices.{read_fault_line}
 use Rattle.avtp_base.specs.Files.{Files}
@@ -22,7 +22,7 @@ use Rattle.listener_pair.specs.Pairs.{pairs}
 use Rattle.pair_laws.specs.Agreeing.{IsOneOf, IsPairOf}
 use Rattle.sample_schedule.specs.Limits.{IsPlan}
 use Rattle.capture_io.specs.declared.end.End.TheVariants as end
-use Rattle.run_report.specs.Endings.{side_line, IsUnopened}
+use Rattle.run_report.specs.Endings.{side_line}
 use Rattle.run_report.specs.declared.status.Status.{Status}
 use Rattle.run_report.specs.Status.{status_of}
 use Rattle.run_report.specs.Listener.{plan_of}

@@ -1,5 +1,5 @@
 -- The run of a command that reads files.
-use Rattle.std.proofs.Common.{ℕ, List, [], ◌∷◌, Option, Result, inl, inr, ◌≡◌, length, take, refl, sym, subst, arith, Bool, None, false, true, Ok, Err}
+use Rattle.std.proofs.Common.{◌∙◌, ℕ, List, [], ◌∷◌, Option, Result, inl, inr, ◌≡◌, length, take, refl, sym, subst, arith, Bool, None, false, true, Ok, Err}
 use Rattle.std.proofs.lemmas.Bool.{cases_Bool}
 use Rattle.std.proofs.lemmas.List.{append-nil}
 use Rattle.std.specs.Prelude.{◌≢◌, IfOk}
@@ -13,9 +13,11 @@ use Rattle.avtp_base.specs.Files.{Files}
 use Rattle.avtp_words.specs.Grammar.{Request, files_of, output_of, agree, check, gateway, listen, show, soak, talk}
 use Rattle.run_report.specs.declared.status.Status.{Status}
 use Rattle.run_report.specs.Outcome.{is_done, TellsRun, TellsYield, CountsReading, AsksFor}
-use Rattle.run_report.specs.Reading.{ReadPlan, DoesFile, DoesFiles, DoesReading}
+use Rattle.run_report.specs.Reading.{PlanOutcome, ReadPlan, DoesFile, DoesFiles, DoesReading}
 use Rattle.run_report.specs.Yield.{Yield, Gives, HandsNothing}
-use Rattle.run_report.proofs.InOrder.{InOrder, one_outcome, order_last, order_one, StopsAll, tells_plan}
+use Rattle.run_report.proofs.InOrder.{file_at, one_only, one_outcome}
+use Rattle.run_report.proofs.RunReports.{same_run}
+use Rattle.run_report.specs.Halt.{CanHalt}
 use Rattle.run_report.proofs.Outcomes.{tells_weaker}
 use Rattle.run_report.proofs.Runs.{run_asked, tells_all, through_as, no_devices}
 use Rattle.run_report.specs.Made.{KeepsFilesBut, KeepsSlotsFor, CountsWriting}
@@ -26,17 +28,18 @@ use Rattle.run_report.specs.declared.status.Status.TheVariants as status
 use Rattle.avtp_tool.specs.Run.{again_of, is_listening}
 use Rattle.avtp_tool.specs.state.Run.{Outcome, task_of}
 
-single : {a b : ShelfState} {before now : Option (List ℕ)} {handed : List Shown → Type 0} {result : Result Status Failed} (one : List ℕ → Status → Yield → Type 0) (name : List ℕ) → TellsYield (one name) handed before now result → Asks (name ∷ []) a b
-    → TellsRun (InOrder one (name ∷ [])) handed a b before now result
-single one name t asked =
-    run_asked (InOrder one (name ∷ [])) (name ∷ [])
-    (tells_weaker (λ ended yields outcome. elim (cases_Bool (is_done ended)) [ inl done ↦ order_one one name yields ended done outcome | inr stops ↦ order_last one name yields [] ended stops outcome ]) t) asked
+single : {a b : ShelfState} {before now : Option (List ℕ)} {handed : List Shown → Type 0} {result : Result Status Failed} (plan : ReadPlan) (files : Files) (fault : Type 0) (name : List ℕ) → plan.names ≡ name ∷ [] → TellsYield (one_outcome plan files fault name) handed before now result → Asks (name ∷ []) a b
+    → TellsRun (PlanOutcome plan files fault) handed a b before now result
+single plan files fault name named t asked =
+    run_asked (PlanOutcome plan files fault) (name ∷ [])
+    (tells_weaker (λ ended yields outcome.
+    let at = file_at plan files fault name ended yields outcome in
+    (at.halt, subst (λ (ns : List (List ℕ)). CanHalt plan.limit ns files fault at.halt) (sym named) (at.can []), same_run (name ∷ []) _ ended _ yields _ None None refl at.ended_is at.yields_is refl ∙ one_only plan files at.halt name named)) t) asked
 
-pub one_file : {s t : ShelfState} {h h' : SinkState} {l l' : List ℕ} {result : Result Status Failed} {handed : List Shown → Type 0} (plan : ReadPlan) (name : List ℕ) → StopsAll plan → plan.names ≡ name ∷ []
+pub one_file : {s t : ShelfState} {h h' : SinkState} {l l' : List ℕ} {result : Result Status Failed} {handed : List Shown → Type 0} (plan : ReadPlan) (name : List ℕ) → plan.names ≡ name ∷ []
     → DoesFile (plan.report name) handed plan.limit name s t h h' l l' result → DoesFiles plan handed s t h h' l l' result
-one_file {s} {t} {h} {h'} {l} {l'} {result = result} {handed} plan name stops named does = record {
-  tells = λ all told still. tells_plan plan all _ stops
-      (subst (λ (ns : List (List ℕ)). TellsRun (InOrder (one_outcome plan all (Rose s.reading_faults t.reading_faults)) ns) handed s t (written h.held l) (written h'.held l') result) (sym named) (single (one_outcome plan all (Rose s.reading_faults t.reading_faults)) name (does.tells all told) does.keeps.asked));
+one_file {s} {t} {h} {h'} {l} {l'} {result = result} {handed} plan name named does = record {
+  tells = λ all told still. single plan all (Rose s.reading_faults t.reading_faults) name named (does.tells all told) does.keeps.asked;
   count = length plan.names;
   within = omega arith;
   all = λ done. refl;

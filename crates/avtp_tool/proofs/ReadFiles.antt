@@ -15,14 +15,15 @@ use Rattle.capture_io.proofs.Leaving.{only_reads_nothing, only_reads_then}
 use Rattle.avtp_base.specs.declared.failed.Failed.{Failed}
 use Rattle.avtp_text.specs.Written.{written}
 use Rattle.run_report.specs.declared.status.Status.{Status}
-use Rattle.run_report.specs.Reading.{ReadPlan, joined, DoesFile, one_status, one_yield, DoesFiles, is_of_reading, Report}
+use Rattle.run_report.specs.Reading.{in_order_read, in_order_status, in_order_yield, plan_report, ReadPlan, joined, DoesFile, DoesFiles, is_of_reading, Report}
 use Rattle.run_report.specs.Yield.{Yield, Gives, says, HandsNothing}
 use Rattle.avtp_tool.specs.declared.files.Reading.{Reading}
 use Rattle.avtp_tool.specs.declared.files.Reading.TheVariants.{Check, Listen}
 use Rattle.avtp_tool.specs.state.Files.{plan_for}
 use Rattle.run_report.specs.Outcome.{is_done, CountsReading, TellsYield, IsDone, KeepsSink}
-use Rattle.run_report.proofs.InOrder.{InOrder, one_outcome, StopsAll, tells_plan, none_read, order_weaker, all_done, tells_done, tells_stopped}
-use Rattle.run_report.proofs.OneFile.{file_weaker, file_here}
+use Rattle.run_report.proofs.InOrder.{all_done, IsReadTo, one_outcome, StopsAll, tells_done, tells_stopped}
+use Rattle.run_report.proofs.RunReports.{same_run}
+use Rattle.run_report.specs.Halt.{no_halt}
 use Rattle.run_report.proofs.Yields.{Joins, part_whole, gives_as, part_as}
 use Rattle.run_report.proofs.Outcomes.{sink_then, sink_ok, counts_failed, sink_failed, tells_err}
 use Rattle.run_report.specs.declared.status.Status.TheVariants as status
@@ -71,26 +72,24 @@ missing_before (Some a) (Some b) name keeps missing = sym (keeps name) ∙ missi
 
 -- ---- so far
 
--- The files `names` are the first files of a plan. The files `names` were read to their ends, one after another.
-pub record IsReadTo (plan : ReadPlan) (handed : List Shown → Type 0) (all : Files) (before after : ℕ) (names : List (List ℕ)) (ended : Status) (old now : Option (List ℕ)) : Type 0 where
-  pub yields : Yield
-  pub order : InOrder (one_outcome plan all (Rose before after)) names names ended yields
-  pub gives : Gives handed old now yields
-
 -- If the shelf shows its files, the files `names` were read to their ends. The files `names` are the first files of the
 -- plan. The run so far left all else unchanged.
 pub record ReadsTo (plan : ReadPlan) (handed : List Shown → Type 0) (names : List (List ℕ)) (ended : Status) (s t : ShelfState) (old now : Option (List ℕ)) : Type 0 where
   pub done : is_done ended ≡ true
   pub reading : t.reading_faults ≡ s.reading_faults
   pub keeps : OnlyReads s t names
-  pub tells : (all : Files) → s.files ≡ Some all → IsSome t.files → IsReadTo plan handed all s.reading_faults t.reading_faults names ended old now
+  pub tells : (all : Files) → s.files ≡ Some all → IsSome t.files → IsReadTo plan handed all names ended old now
+
+nothing_read : {now : Option (List ℕ)} {handed : List Shown → Type 0} (plan : ReadPlan) (all : Files) → handed [] → IsReadTo plan handed all [] status.Done now now
+unfolding in_order_read in_order_status in_order_yield
+nothing_read {now} plan all none = record { read = refl; ended_is = refl; gives = record { text = Appends-nil now; items = none } }
 
 pub reads_none : {s : ShelfState} {now : Option (List ℕ)} {handed : List Shown → Type 0} (plan : ReadPlan) → handed [] → ReadsTo plan handed [] status.Done s s now now
 reads_none {s} {now} plan none = record {
   done = refl;
   reading = refl;
   keeps = only_reads_nothing s;
-  tells = λ all told some. record { yields = says []; order = none_read (one_outcome plan all (Rose s.reading_faults s.reading_faults)); gives = record { text = Appends-nil now; items = none } };
+  tells = λ all told some. nothing_read plan all none;
 }
 
 -- ---- one more file
@@ -122,12 +121,6 @@ tells_step q r r' {mid} {now} {handed} {result} plan all later name is same tell
     subst (λ (n : ℕ). TellsYield (one_outcome plan all (Rose n r') name) handed mid now result) same
     (subst (λ (t : Option (List ℕ)). TellsYield (one_outcome plan (λ (n : List ℕ). t) (Rose q r') name) handed mid now result) is tells)
 
--- an outcome of the earlier files stays possible if the count of reading faults rises later
-order_step : (r q r' : ℕ) (ended : Status) (yields : Yield) (plan : ReadPlan) (all : Files) (names : List (List ℕ)) → q ≡ r → r ≤ r' → InOrder (one_outcome plan all (Rose r q)) names names ended yields → InOrder (one_outcome plan all (Rose r r')) names names ended yields
-order_step r q r' ended yields plan all names same falls order =
-    order_weaker (one_outcome plan all (Rose r q)) (one_outcome plan all (Rose r r'))
-    (λ name s t outcome. file_weaker (plan.report name) plan.limit (all name) (Rose r q) (Rose r r') s t (λ rose. omega (arith, rose, same, falls)) outcome) names names ended yields order
-
 keeps_more : {s t u : ShelfState} (files : List (String Global)) (i : ℕ) (d : String Global) (name : List ℕ) → i < length files → string_bytes (get_or files i d) ≡ name
     → OnlyReads s t (take i (texts files)) → OnlyReads t u (name ∷ []) → OnlyReads s u (take (i + 1) (texts files))
 keeps_more {s} {t} {u} files i d name within is first second =
@@ -135,9 +128,9 @@ keeps_more {s} {t} {u} files i d name within is first second =
     (only_reads_then s t u (take i (texts files)) (name ∷ []) first second)
 
 pub reads_more : {s t u : ShelfState} {before : Option (List ℕ)} {h' h'' : SinkState} {l' l'' : List ℕ} {so_far : Status} {result : Result Status Failed} {earlier handed all_handed : List Shown → Type 0} (plan : ReadPlan) (files : List (String Global)) (i : ℕ) (d : String Global) (name : List ℕ)
-    (ended : Status) → Joins earlier handed all_handed → i < length files → string_bytes (get_or files i d) ≡ name → is_done ended ≡ true → result ≡ Ok ended → ReadsTo plan earlier (take i (texts files)) so_far s t before (written h'.held l')
+    (ended : Status) → StopsAll plan → Joins earlier handed all_handed → i < length files → string_bytes (get_or files i d) ≡ name → is_done ended ≡ true → result ≡ Ok ended → ReadsTo plan earlier (take i (texts files)) so_far s t before (written h'.held l')
     → DoesFile (plan.report name) handed plan.limit name t u h' h'' l' l'' result → ReadsTo plan all_handed (take (i + 1) (texts files)) (joined so_far ended) s u before (written h''.held l'')
-reads_more {s} {t} {u} {before} {h'} {h''} {l'} {l''} {so_far = so_far} {result} {earlier} {handed} {all_handed} plan files i d name ended join within is goes same first second =
+reads_more {s} {t} {u} {before} {h'} {h''} {l'} {l''} {so_far = so_far} {result} {earlier} {handed} {all_handed} plan files i d name ended stops join within is goes same first second =
     let keeps = keeps_more files i d name within is first.keeps second.keeps in
     let here = subst (λ (x : Result Status Failed). IfOk x (λ e. e ≢ status.ReadFault → e ≢ status.Memory → e ≢ status.WriteFault → u.reading_faults ≡ t.reading_faults)) same second.counts.quiet in
     record {
@@ -149,14 +142,14 @@ reads_more {s} {t} {u} {before} {h'} {h''} {l'} {l''} {so_far = so_far} {result}
           let later = told_later s.files t.files all told first.keeps.files some in
           let to = first.tells all told some in
           let tells = subst (λ (x : Result Status Failed). TellsYield (one_outcome plan all (Rose s.reading_faults u.reading_faults) name) handed (written h'.held l') (written h''.held l'') x) same (tells_step t.reading_faults s.reading_faults u.reading_faults plan all later.0 name (later.2 name) first.reading (second.tells later.0 later.1)) in
-          let more = tells_done before (written h'.held l') (written h''.held l'') (one_outcome plan all (Rose s.reading_faults u.reading_faults)) (take i (texts files)) name to.yields so_far ended join first.done goes (order_step s.reading_faults t.reading_faults u.reading_faults so_far to.yields plan all (take i (texts files)) first.reading keeps.reading to.order) to.gives tells in
-          subst (λ (ns : List (List ℕ)). IsReadTo plan all_handed all s.reading_faults u.reading_faults ns (joined so_far ended) before (written h''.held l'')) (more_named files i d name within is) (record { yields = more.0; order = more.1; gives = more.2 });
+          subst (λ (ns : List (List ℕ)). IsReadTo plan all_handed all ns (joined so_far ended) before (written h''.held l'')) (more_named files i d name within is)
+          (tells_done before (written h'.held l') (written h''.held l'') plan all (Rose s.reading_faults u.reading_faults) (take i (texts files)) name so_far ended stops join first.done goes to tells);
     }
 
 pub reads_stopped : {s t u : ShelfState} {k h' h'' : SinkState} {l l' l'' : List ℕ} {so_far : Status} {result : Result Status Failed} {earlier handed all_handed : List Shown → Type 0} (plan : ReadPlan) (files : List (String Global)) (i : ℕ) (d : String Global) (name : List ℕ)
-    → StopsAll plan → Joins earlier handed all_handed → plan.names ≡ texts files → i < length files → string_bytes (get_or files i d) ≡ name → (IsDone result → ⊥) → ReadsTo plan earlier (take i (texts files)) so_far s t (written k.held l) (written h'.held l')
+    → Joins earlier handed all_handed → plan.names ≡ texts files → i < length files → string_bytes (get_or files i d) ≡ name → (IsDone result → ⊥) → ReadsTo plan earlier (take i (texts files)) so_far s t (written k.held l) (written h'.held l')
     → KeepsSink {T = Unit} k h' (Ok tt) → DoesFile (plan.report name) handed plan.limit name t u h' h'' l' l'' result → DoesFiles plan all_handed s u k h'' l l'' result
-reads_stopped {s} {t} {u} {so_far = so_far} {result} plan files i d name stops join named within is stopped first sink second =
+reads_stopped {s} {t} {u} {so_far = so_far} {result} plan files i d name join named within is stopped first sink second =
     let before_it = take i (texts files) in
     let rest = drop (suc i) (texts files) in
     let split = named ∙ split_named files i d name within is in
@@ -167,9 +160,8 @@ reads_stopped {s} {t} {u} {so_far = so_far} {result} plan files i d name stops j
           let some = told_still t.files u.files second.keeps.files still in
           let later = told_later s.files t.files all told first.keeps.files some in
           let to = first.tells all told some in
-          tells_plan plan all _ stops (tells_stopped (one_outcome plan all (Rose s.reading_faults u.reading_faults)) (one_status plan all) (one_yield plan all) (λ n. file_here (plan.report n) plan.limit (all n) (Rose s.reading_faults u.reading_faults)) join before_it rest plan.names name to.yields so_far split first.done
-          (order_step s.reading_faults t.reading_faults u.reading_faults so_far to.yields plan all before_it first.reading keeps.reading to.order) to.gives (tells_step t.reading_faults s.reading_faults u.reading_faults plan all later.0 name (later.2 name) first.reading (second.tells later.0 later.1)) stopped
-          (λ names stands. subst (λ (ns : List (List ℕ)). WasAsked u.asked (names ++ ns)) (sym (more_named files i d name within is)) (keeps.asked names stands)));
+          tells_stopped plan all (Rose s.reading_faults u.reading_faults) before_it rest name so_far join split first.done to (tells_step t.reading_faults s.reading_faults u.reading_faults plan all later.0 name (later.2 name) first.reading (second.tells later.0 later.1)) stopped
+          (λ names stands. subst (λ (ns : List (List ℕ)). WasAsked u.asked (names ++ ns)) (sym (more_named files i d name within is)) (keeps.asked names stands));
       count = i + 1;
       within = subst (λ (ns : List (List ℕ)). i + 1 ≤ length ns) (sym named) (omega (arith, within, all_names));
       all = λ done. absurd (stopped done);
@@ -191,16 +183,17 @@ done_reads status.Limit done = refl
 done_reads status.DeviceFault done = absurd cc
 done_reads status.TalkInput done = absurd cc
 
-pub reads_all : {s t : ShelfState} {h h' : SinkState} {l l' : List ℕ} {handed : List Shown → Type 0} (plan : ReadPlan) (files : List (String Global)) (i : ℕ) (ended : Status) → StopsAll plan → plan.names ≡ texts files → length files ≤ i
+pub reads_all : {s t : ShelfState} {h h' : SinkState} {l l' : List ℕ} {handed : List Shown → Type 0} (plan : ReadPlan) (files : List (String Global)) (i : ℕ) (ended : Status) → plan.names ≡ texts files → length files ≤ i
     → ReadsTo plan handed (take i (texts files)) ended s t (written h.held l) (written h'.held l') → KeepsSink {T = Unit} h h' (Ok tt) → DoesFiles plan handed s t h h' l l' (Ok ended)
-reads_all {s} {t} {h} {h'} {l} {l'} {handed = handed} plan files i ended stops named past to sink =
+reads_all {s} {t} {h} {h'} {l} {l'} {handed = handed} plan files i ended named past to sink =
     let count = names_count files in
     let whole : take i (texts files) ≡ plan.names = take_all i (texts files) (omega (arith, count, past)) ∙ sym named in
     let keeps = subst (OnlyReads s t) whole to.keeps in
     record {
       tells = λ all told still.
-          let read = subst (λ (ns : List (List ℕ)). IsReadTo plan handed all s.reading_faults t.reading_faults ns ended (written h.held l) (written h'.held l')) whole (to.tells all told still) in
-          tells_plan plan all _ stops (record { came = plan.names; ended = ended; yields = read.yields; outcome = read.order; whole = λ memory write. (refl, read.gives, keeps.asked); part = part_whole read.yields read.gives });
+          let read = subst (λ (ns : List (List ℕ)). IsReadTo plan handed all ns ended (written h.held l) (written h'.held l')) whole (to.tells all told still) in
+          let yields = (plan_report plan all no_halt).yields in
+          record { came = plan.names; ended = ended; yields = yields; outcome = (no_halt, tt, same_run plan.names _ ended _ yields _ None None (sym read.read) read.ended_is refl refl); whole = λ memory write. (refl, read.gives, keeps.asked); part = part_whole yields read.gives };
       count = length plan.names;
       within = omega arith;
       all = λ done. refl;

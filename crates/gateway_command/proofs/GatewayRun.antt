@@ -5,7 +5,6 @@ use Rattle.std.proofs.lemmas.Bool.{eqb-true}
 use Rattle.std.specs.List.{AllByRecursion}
 use Rattle.capture_io.specs.declared.end.End.{End}
 use Rattle.capture_io.specs.Ends.{EndsAt, end_of}
-use Rattle.capture_io.proofs.Ending.{ends_here}
 use Rattle.avtp_base.specs.Files.{Files}
 use Rattle.capture_io.specs.Formats.{records_in}
 use Rattle.am824_gateway.specs.Scan.{FaultAt, IsShape}
@@ -23,7 +22,6 @@ use Rattle.gateway_laws.proofs.Timely.{due_in_time, shown_in_time}
 use Rattle.am824_gateway.proofs.Scanned.{scanned_fits}
 use Rattle.gateway_laws.proofs.Kept.{all_kept}
 use Rattle.capture_io.specs.declared.end.End.TheVariants as end
-use Rattle.run_report.specs.declared.status.Status.{Status}
 use Rattle.run_report.specs.Endings.{IsUnopened, side_line}
 use Rattle.run_report.specs.Status.{status_of}
 use Rattle.run_report.proofs.OneFile.{stopped_at, stops_here}

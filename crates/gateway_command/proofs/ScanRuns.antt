@@ -7,7 +7,7 @@ use Rattle.avtp_base.specs.Files.{Files, IsMissing, KeepsFiles}
 use Rattle.avtp_base.specs.States.{ShelfState, SinkState, Asks}
 use Rattle.avtp_text.specs.Written.{written}
 use Rattle.capture_io.specs.Reads.{OnlyReads}
-use Rattle.avtp_words.specs.Grammar.{gateway, Turning}
+use Rattle.avtp_words.specs.Grammar.{Turning}
 use Rattle.am824_gateway.specs.declared.scan.ScanFault.{ScanFault}
 use Rattle.capture_io.specs.declared.end.End.{End}
 use Rattle.avtp_base.specs.declared.failed.OpenFault.{OpenFault}

@@ -18,7 +18,6 @@ use Rattle.talker.specs.Frames.{SentFrame, capture_of}
 use Rattle.am824_gateway.specs.Packets.{gateway_frames}
 use Rattle.capture_io.specs.Ends.{end_of, EndsAt}
 use Rattle.avtp_base.specs.Files.{Files}
-use Rattle.avtp_text.specs.Notices.{read_fault_line}
 use Rattle.gateway_laws.specs.Kept.{Keeps, SkipsNone}
 use Rattle.sample_schedule.specs.Limits.{IsPlan}
 use Rattle.listener.specs.Heard.{schedule_plan}

@@ -1,5 +1,5 @@
 -- What `listen` yields of a file that a talker sent, if the talker keeps the rules.
-use Rattle.std.proofs.Common.{zero, suc, take, ◌≡◌, List, false, refl, ◌++◌, ℕ, sym, ap, subst, ◌∙◌, Option, Some, None, inl, inr, ◌∷◌, Bool}
+use Rattle.std.proofs.Common.{zero, suc, take, ◌≡◌, List, false, refl, ◌++◌, ℕ, sym, ap, subst, ◌∙◌, Option, Some, inl, inr, ◌∷◌, Bool}
 use Rattle.std.specs.Prelude.{◌⊎◌}
 use mathlib.Core.List.{IsPrefix}
 use Rattle.pcap_frames.specs.Capture.{Record}

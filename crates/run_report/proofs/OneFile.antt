@@ -1,10 +1,10 @@
 -- A file that is read, and its possible outcomes.
 use Rattle.std.proofs.lemmas.List.{length-take-le, take-append-drop}
-use Rattle.std.proofs.Common.{drop, zero, [], ◌∷◌, ◌++◌, length, length-append, arith, ◌≡◌, ℕ, List, take, Some, Option, None, refl, inl, inr, sym, subst, ap, ◌∙◌}
+use Rattle.std.proofs.Common.{drop, [], ◌∷◌, ◌++◌, length, length-append, arith, ◌≡◌, ℕ, List, take, Some, Option, None, refl, inl, inr, sym, subst, ap, ◌∙◌}
 use Rattle.std.specs.Prelude.{◌⊎◌}
 use Rattle.capture_io.specs.declared.end.End.{End}
 use Rattle.capture_io.specs.Ends.{EndsAt, end_of}
-use Rattle.capture_io.proofs.Ending.{ends_here, ends_weaker}
+use Rattle.capture_io.proofs.Ending.{ends_weaker}
 use Rattle.avtp_text.specs.Notices.{read_fault_line}
 use Rattle.pcap_frames.specs.Capture.{Record}
 use Rattle.capture_io.specs.Source.{EndsAfter}
@@ -13,7 +13,7 @@ use Rattle.capture_io.specs.declared.end.End.TheVariants as end
 use Rattle.run_report.specs.Reading.FileOutcome.{through, refused, halted}
 use Rattle.run_report.specs.Reading.{FileOutcome, file_status, file_yield, Report}
 use Rattle.run_report.specs.Yield.{says, Yield}
-use Rattle.run_report.specs.Halt.{CanStop, no_halt, not_opened, stopped_after}
+use Rattle.run_report.specs.Halt.{CanStop, no_halt}
 use Rattle.run_report.specs.declared.status.Status.{Status}
 use Rattle.run_report.specs.Outcome.{Only}
 use Rattle.run_report.specs.declared.status.Status.TheVariants as status
@@ -34,12 +34,6 @@ pub file_fault : (report : Report) (limit : ℕ) (told : Option (List ℕ)) (fau
 file_fault report limit None fault cause = through refl refl
 file_fault report limit (Some bytes) fault (inl cause) = refused cause refl refl
 file_fault report limit (Some bytes) fault (inr none) = absurd cc
-
--- each outcome stays possible if the condition for a read fault is weakened
-pub file_weaker : (report : Report) (limit : ℕ) (told : Option (List ℕ)) (fault other : Type 0) (ended : Status) (yields : Yield) → (fault → other) → FileOutcome report limit told fault ended yields → FileOutcome report limit told other ended yields
-file_weaker report limit told fault other ended yields weaker (through is all) = through is all
-file_weaker report limit told fault other ended yields weaker (refused cause is all) = refused (weaker cause) is all
-file_weaker report limit told fault other ended yields weaker (halted after cause can is all) = halted after (weaker cause) can is all
 
 -- ---- the read fault
 

@@ -1,5 +1,5 @@
 -- Files that a command reads in order: the possible outcomes of one file, and of all files.
-use Rattle.std.specs.Prelude.{zero, List, ◌≡◌, ℕ, Some, ◌⊎◌, Option, None, take, [], ◌∷◌, true, false, if◌then◌else◌, ◌^◌, ◌≤◌, IsSome, Result, Ok, Err, IfOk, OnErr, Bool, length}
+use Rattle.std.specs.Prelude.{zero, List, ◌≡◌, ℕ, Some, Option, None, take, [], ◌∷◌, true, false, if◌then◌else◌, ◌^◌, ◌≤◌, IsSome, Result, Ok, Err, IfOk, OnErr, Bool, length}
 use Rattle.pcap_frames.specs.Capture.{Record}
 use Rattle.capture_io.specs.declared.end.End.{End}
 use Rattle.capture_io.specs.Formats.{records_in}

@@ -1,5 +1,5 @@
 -- The outcomes of `talk`.
-use Rattle.std.proofs.Common.{◌≡◌, ℕ, ◌≤◌, List, [], length, Option, Some, refl, ◌<◌, None, inl, inr}
+use Rattle.std.proofs.Common.{◌≡◌, ℕ, ◌≤◌, List, [], length, Option, Some, refl, None, inl, inr}
 use Rattle.std.proofs.lemmas.Bool.{le-leb, lt-leb, cases_lt}
 use Rattle.talk_plan.specs.declared.fault.TalkFault.{TalkFault}
 use Rattle.talk_plan.specs.declared.plan.TalkPlan.{TalkPlan}
@@ -9,8 +9,8 @@ use Rattle.avtp_words.specs.Grammar.{Talking}
 use Rattle.avtp_text.specs.Talk.{talk_input_line}
 use Rattle.avtp_text.specs.Notices.{limit_line, read_fault_line}
 use Rattle.run_report.specs.declared.status.Status.{Status}
-use Rattle.run_report.specs.Halt.{Halt, no_halt, not_opened}
-use Rattle.run_report.specs.Yield.{Yield, says}
+use Rattle.run_report.specs.Halt.{no_halt, not_opened}
+use Rattle.run_report.specs.Yield.{Yield}
 use Rattle.run_report.proofs.RunReports.{said}
 use Rattle.run_report.specs.declared.status.Status.TheVariants as status
 use Rattle.run_report.specs.RunReport.{Halts}

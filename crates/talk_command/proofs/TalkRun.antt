@@ -3,7 +3,7 @@ use Rattle.std.proofs.Common.{◌≢◌, Result, ◌≡◌, ℕ, List, Option, S
 use Rattle.std.specs.Prelude.{IfOk, IsErrOf}
 use Rattle.avtp_base.specs.declared.failed.Failed.{Failed}
 use Rattle.avtp_base.specs.States.{Asks, ShelfState, WasAsked, SinkState}
-use Rattle.avtp_words.specs.Grammar.{Talking, talk}
+use Rattle.avtp_words.specs.Grammar.{Talking}
 use Rattle.talk_plan.specs.declared.plan.TalkPlan.{TalkPlan}
 use Rattle.talker.specs.Frames.{capture}
 use Rattle.avtp_base.specs.Files.{Files, IsMissing}

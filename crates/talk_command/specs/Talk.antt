@@ -1,5 +1,5 @@
 -- What `talk` prints and how it ends.
-use Rattle.std.specs.Prelude.{⊤, false, option_map, ℕ, List, length, ◌≡◌, ◌≤◌, ◌<◌, Some, None, Option, nat_le, if◌then◌else◌, [], ◌∷◌}
+use Rattle.std.specs.Prelude.{⊤, false, option_map, ℕ, List, length, Some, None, Option, nat_le, if◌then◌else◌, [], ◌∷◌}
 use Rattle.talk_plan.specs.declared.plan.TalkKind.{TalkKind}
 use Rattle.talk_plan.specs.declared.plan.TalkKind.TheVariants.{Aaf, Am824, H264}
 use Rattle.avtp_words.specs.declared.talk.Kind.{Kind}
@@ -12,7 +12,7 @@ use Rattle.avtp_text.specs.Talk.{talk_line, talk_input_line}
 use Rattle.talk_plan.specs.declared.fault.TalkFault.{TalkFault}
 use Rattle.talker.specs.Faults.{fault_of}
 use Rattle.talk_plan.specs.Plan.{most_input}
-use Rattle.avtp_text.specs.Notices.{limit_line, read_fault_line}
+use Rattle.avtp_text.specs.Notices.{limit_line}
 use Rattle.avtp_words.specs.declared.talk.Kind.TheVariants as words
 use Rattle.avtp_base.specs.Files.{Files}
 use Rattle.run_report.specs.declared.status.Status.{Status}
@@ -20,7 +20,6 @@ use Rattle.run_report.specs.Runs.{Task}
 use Rattle.run_report.specs.Yield.{Yield, says}
 use Rattle.run_report.specs.RunReport.{Halts, RunReport, ends_unread}
 use Rattle.run_report.specs.Halt.{Halt, no_halt}
-use Rattle.run_report.specs.Outcome.{is_done}
 use Rattle.run_report.specs.declared.status.Status.TheVariants as status
 
 -- the kind that the words ask for, in the talker's own type

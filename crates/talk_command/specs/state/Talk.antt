@@ -27,7 +27,7 @@ use Rattle.run_report.specs.declared.status.Status.{Status}
 use Rattle.run_report.specs.Outcome.{AsksFor, is_done, IsDone, KeepsSink, TellsText, EndsWith}
 use Rattle.run_report.specs.Made.{frame_bytes, KeepsFilesBut, CountsWriting}
 use Rattle.run_report.specs.declared.status.Status.TheVariants as status
-use Rattle.talk_command.specs.Talk.{sent_line, talk_plan}
+use Rattle.talk_command.specs.Talk.{sent_line}
 
 -- ---- an outcome
 

@@ -32,7 +32,7 @@ returns-in-Ok-Show-clause-runs g c request line =
     let limit = c.in-Ok-Show.limit in
     let file = c.in-Ok-Show.file.now in
     let same = rw c.in-Ok-Show.field-0-is at (c.in-Ok-Show.ensures.only request line) in
-    runs_deaf request (ap is_listening (sym same)) (hands_nothing g.D.Devices.handed _) (reading_runs (show limit file) false request same (λ all fault failed came ended yields o. o) refl refl refl refl (one_file (show_plan limit file) file (λ name records. refl) refl c.show.ensures))
+    runs_deaf request (ap is_listening (sym same)) (hands_nothing g.D.Devices.handed _) (reading_runs (show limit file) false request same (λ all fault failed came ended yields o. o) refl refl refl refl (one_file (show_plan limit file) file refl c.show.ensures))
 
 pub returns-in-Ok-Check-clause-runs : goal.returns-in-Ok-Check-clause-runs
 returns-in-Ok-Check-clause-runs g c request line =
