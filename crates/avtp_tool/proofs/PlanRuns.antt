@@ -1,6 +1,5 @@
 -- The run of a command that reads files.
-use Rattle.std.proofs.Common.{◌∙◌, ℕ, List, [], ◌∷◌, Option, Result, inl, inr, ◌≡◌, length, take, refl, sym, subst, arith, Bool, None, false, true, Ok, Err}
-use Rattle.std.proofs.lemmas.Bool.{cases_Bool}
+use Rattle.std.proofs.Common.{◌∙◌, ℕ, List, [], ◌∷◌, Option, Result, ◌≡◌, length, take, refl, sym, subst, arith, Bool, None, false, true, Ok, Err}
 use Rattle.std.proofs.lemmas.List.{append-nil}
 use Rattle.std.specs.Prelude.{◌≢◌, IfOk}
 use Rattle.avtp_base.specs.declared.failed.Failed.{Failed}
@@ -12,7 +11,7 @@ use Rattle.avtp_text.specs.Written.{written}
 use Rattle.avtp_base.specs.Files.{Files}
 use Rattle.avtp_words.specs.Grammar.{Request, files_of, output_of, agree, check, gateway, listen, show, soak, talk}
 use Rattle.run_report.specs.declared.status.Status.{Status}
-use Rattle.run_report.specs.Outcome.{is_done, TellsRun, TellsYield, CountsReading, AsksFor}
+use Rattle.run_report.specs.Outcome.{TellsRun, TellsYield, CountsReading, AsksFor}
 use Rattle.run_report.specs.Reading.{PlanOutcome, ReadPlan, DoesFile, DoesFiles, DoesReading}
 use Rattle.run_report.specs.Yield.{Yield, Gives, HandsNothing}
 use Rattle.run_report.proofs.InOrder.{file_at, one_only, one_outcome}

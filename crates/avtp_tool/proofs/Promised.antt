@@ -1,5 +1,5 @@
 -- If a run did what the words ask for and its text was then written, the command's promise `HasRun` holds for the run.
-use Rattle.std.proofs.Common.{◌≡◌, ℕ, ℤ, List, Bool, refl, sym, ap, subst, ◌∙◌, ◌∷◌, ◌++◌, Option, Some, ◌≢◌, [], Result, false, inl, inr, arith}
+use Rattle.std.proofs.Common.{◌≡◌, ℕ, ℤ, List, Bool, refl, sym, subst, ◌∙◌, ◌∷◌, ◌++◌, Some, ◌≢◌, [], Result, false, inl, inr, arith}
 use Rattle.std.specs.Prelude.{IfOk, IsSome}
 use Rattle.avtp_base.specs.Files.{Files}
 use Rattle.packet_journal.specs.Packets.{PacketJournal}
@@ -9,13 +9,13 @@ use Rattle.avtp_base.specs.declared.failed.Failed.{Failed}
 use Rattle.avtp_base.specs.States.{Asks, ShelfState, SinkState}
 use Rattle.avtp_text.specs.Written.{Grows, written}
 use Rattle.sample_schedule.specs.declared.shown.Shown.{Shown}
-use Rattle.avtp_base.specs.Faults.{IsCounted, Rose}
+use Rattle.avtp_base.specs.Faults.{IsCounted}
 use Rattle.avtp_text.proofs.Growth.{grows_further}
 use Rattle.avtp_base.proofs.Files.{KeepsFiles-refl}
 use Rattle.avtp_base.proofs.Told.{Appends-nil, Keeps-refl}
 use Rattle.avtp_text.proofs.Printing.{prefix_none}
 use Rattle.avtp_text.specs.Notices.{words_line}
-use Rattle.run_report.specs.Yield.{Yield, Gives}
+use Rattle.run_report.specs.Yield.{Gives}
 use Rattle.run_report.specs.declared.status.Status.{Status}
 use Rattle.run_report.specs.Made.{MakesOutput}
 use Rattle.run_report.specs.Runs.{Runs}

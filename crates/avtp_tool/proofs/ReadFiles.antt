@@ -16,7 +16,7 @@ use Rattle.avtp_base.specs.declared.failed.Failed.{Failed}
 use Rattle.avtp_text.specs.Written.{written}
 use Rattle.run_report.specs.declared.status.Status.{Status}
 use Rattle.run_report.specs.Reading.{in_order_read, in_order_status, in_order_yield, plan_report, ReadPlan, joined, DoesFile, DoesFiles, is_of_reading, Report}
-use Rattle.run_report.specs.Yield.{Yield, Gives, says, HandsNothing}
+use Rattle.run_report.specs.Yield.{Yield, Gives, HandsNothing}
 use Rattle.avtp_tool.specs.declared.files.Reading.{Reading}
 use Rattle.avtp_tool.specs.declared.files.Reading.TheVariants.{Check, Listen}
 use Rattle.avtp_tool.specs.state.Files.{plan_for}

@@ -1,5 +1,5 @@
 -- What the command promises: `HasRun` if the words are a command line, `RefusesWords` if they are not.
-use Rattle.std.specs.Prelude.{◌≡◌, ℕ, ℤ, List, take, Some, ◌≢◌, ◌++◌, ◌∷◌, Option, Bool, true, false, ◌≤◌, ◌⊎◌, None, IsSome}
+use Rattle.std.specs.Prelude.{◌≡◌, ℕ, ℤ, List, take, Some, ◌≢◌, ◌++◌, ◌∷◌, Bool, true, false, ◌≤◌, ◌⊎◌, None, IsSome}
 use mathlib.Core.List.{IsPrefix}
 use Rattle.avtp_base.specs.Faults.{IsQuiet, Rose}
 use Rattle.avtp_base.specs.States.{ShelfState, Asks, SinkState}

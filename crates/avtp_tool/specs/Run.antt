@@ -1,5 +1,5 @@
 -- What a run of any command does.
-use Rattle.std.specs.Prelude.{◌≡◌, ℕ, List, [], Option, None, Bool, ◌∷◌, ◌++◌, option_to_list, true, false}
+use Rattle.std.specs.Prelude.{◌≡◌, ℕ, List, [], None, Bool, ◌∷◌, ◌++◌, option_to_list, true, false}
 use Rattle.avtp_base.specs.Files.{Files}
 use Rattle.avtp_words.specs.Grammar.{Request, show, check, listen, talk, soak, agree, gateway, files_of, output_of}
 use Rattle.run_report.specs.Halt.{CanHalt, Halt, no_halt}
