@@ -1,15 +1,14 @@
 //! The command `gateway`: converts a stream of a capture to the other audio format.
 
-ghost use Rattle.std.specs.Prelude.{◌≡◌, ◌≤◌, ◌-◌, ◌^◌, [], IfSome, false};
+ghost use Rattle.std.specs.Prelude.{◌≡◌, ◌≤◌, ◌-◌, ◌^◌, IfSome, false};
 ghost use Rattle.avtp_files.specs.ShelfCalls.{IsMadeIn};
-ghost use Rattle.listener.specs.Listening.{StandsFor, is_closed};
 ghost use Rattle.am824_gateway.specs.Pieces.{nothing_given};
 ghost use Rattle.am824_gateway.specs.Scan.{IsShape};
 ghost use Rattle.avtp_words.specs.Grammar.{turning_of};
 ghost use Rattle.run_report.specs.Endings.{side_line};
 ghost use Rattle.gateway_command.specs.Gateway.{gateway_task, fault_line, fault_name as fault_name_of, format_of, turned_status};
 ghost use Rattle.run_report.specs.Status.{status_of};
-ghost use Rattle.gateway_command.specs.state.Gateway.{EndsOutput, TurnsFile, TurnsInput, ended_line, unread_as};
+ghost use Rattle.gateway_command.specs.state.Gateway.{EndsOutput, IsFresh, TurnsFile, TurnsInput, ended_line, unread_as};
 ghost use Rattle.gateway_command.specs.Gateway.{IsTurning};
 ghost use Rattle.run_report.specs.Outcome.{EndsWith};
 ghost use Rattle.run_report.specs.Runs.{Runs};
@@ -103,9 +102,7 @@ fn turn_input<F: Shelf, S: Sink>(
     out: &mut S,
 ) -> Result<Turned, Failed>
     requires limit { asked.now.listener.limit ≤ 2 ^ 40 }
-    requires begun { listener.counts.frames ≡ 0 }
-    requires going { is_closed listener ≡ false }
-    requires stands { StandsFor [] 0 listener }
+    requires fresh { IsFresh listener }
     requires made { IsMadeIn (F.state shelf.old).slots output.old.writer.slot }
     requires none { output.old.gateway.given ≡ nothing_given }
     ensures { TurnsInput (turning_of asked.now) (F.state shelf.old) (F.state shelf.new) listener output.old output.new (S.state out.old) (S.state out.new) text.old text.new result }

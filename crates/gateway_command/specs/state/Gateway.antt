@@ -33,6 +33,12 @@ use Rattle.gateway_command.specs.declared.turning.Turned.TheVariants as turned
 
 -- ---- the second reading
 
+-- the listener was given no record, and is not closed
+pub record IsFresh (listener : ListenState) : Type 0 where
+  pub begun : listener.counts.frames ≡ 0
+  pub going : is_closed listener ≡ false
+  pub stands : StandsFor [] 0 listener
+
 -- If IN could be opened again, it was converted as far as it could be read and written, and then closed. If IN could
 -- not be opened again, no batch was presented.
 pub record TurnsInput (asked : Turning) (before after : ShelfState) (listener : ListenState) (old new : Output) (out out' : SinkState) (waits waits' : List ℕ) (result : Result Turned Failed) : Type 0 where
