@@ -38,6 +38,7 @@ impl Write for Output<'_> {
         written
     }
 
+    // Nothing waits here. `avtp_text::Text` holds the text, and writes it when it has to appear.
     fn flush(&mut self) -> io::Result<()> {
         Ok(())
     }

@@ -139,11 +139,20 @@ impl AafLine {
         if self.end == end {
             self.line.keep_last(self.len);
         } else {
-            self.line = Line::new();
-            prepend_end(&mut self.line, &end);
-            self.len = self.line.len();
-            self.end = end;
+            self.write_end(end);
         }
+    }
+
+    // Out of line, because the end of most packets is that of the packet before.
+    #[cold]
+    #[inline(never)]
+    fn write_end(&mut self, end: AafEnd)
+        ensures { IsEndAlone self.new.line self.new.len self.new.end end }
+    {
+        self.line = Line::new();
+        prepend_end(&mut self.line, &end);
+        self.len = self.line.len();
+        self.end = end;
     }
 
     /// Replaces the line with the line of the packet `view`.

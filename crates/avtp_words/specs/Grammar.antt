@@ -5,7 +5,7 @@ use Rattle.std.specs.Str.{bytes_eq}
 use Rattle.aaf_format.specs.declared.aaf.AafFormat.{AafFormat}
 use Rattle.aaf_format.specs.declared.aaf.AafFormat.TheVariants.{Int16}
 use Rattle.aaf_format.specs.Aaf.{rate_of, frame_size}
-use Rattle.clock_track.specs.Pairs.{pull_down, pull_up}
+use Rattle.clock_track.specs.PairLines.{pull_down, pull_up}
 use Rattle.iec61883_format.specs.Iec.{rate_of_fdf, syt_interval, block_size}
 use Rattle.avtp_words.specs.declared.agree.Agree.{Agree as AskedAgree}
 use Rattle.avtp_words.specs.declared.command.Command.{Command}

@@ -113,7 +113,8 @@ check_text limit name records how =
     ++ total_line limit (length records) (length (tracked (notes_of records))) (length (of_each check_lines records)) how
 
 -- The status of a capture. If the capture was read to its end, the status says whether there are findings. If the
--- capture was not read to its end, the status says how the reading ended.
+-- capture was not read to its end, the status says how the reading ended: it is `Refused`, exit status 3, if the capture
+-- was refused.
 abbrev pub check_status : ℕ → End → Status
 check_status found end.Whole = if found == 0 then status.Done else status.Findings
 check_status found how = status_of how

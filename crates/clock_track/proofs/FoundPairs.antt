@@ -8,7 +8,7 @@ use Rattle.std.proofs.lemmas.List.Elements.{All-cons, All-contains, All-drop, Al
 use Rattle.clock_track.specs.declared.clock_row.ClockRow.{ClockRow}
 use Rattle.clock_track.specs.declared.pair.Pair.{Pair}
 use Rattle.clock_track.specs.Adjacent.{AreAcross, AreInside, AreTaken, pair_across, pair_inside}
-use Rattle.clock_track.specs.Pairs.{Covers, spot_by}
+use Rattle.clock_track.specs.PairLines.{Covers, spot_by}
 use Rattle.clock_track.specs.Rows.{IsLatest, across, clock_spot, inside, joined_by, joined_pairs, latest, pair_of, pairs_at, timestamp, timestamps, window}
 use Rattle.clock_track.proofs.Latest.{last_is}
 use Rattle.clock_track.proofs.Pairs.{joins_not}

@@ -12,7 +12,7 @@ use Rattle.clock_track.specs.declared.clock_row.ClockRow.{ClockRow}
 use Rattle.clock_track.specs.declared.pair.Pair.{Pair}
 use Rattle.clock_track.specs.Examples.{second_pair}
 use Rattle.clock_track.specs.Limits.{IsNotable, IsPoint, IsRow, IsShift, IsSmall}
-use Rattle.clock_track.specs.Pairs.{Covers, IsJoined, covers, is_joined, pull_up}
+use Rattle.clock_track.specs.PairLines.{Covers, IsJoined, covers, is_joined, pull_up}
 use Rattle.clock_track.specs.Rows.{IsLatest, across, inside, joined_by, joined_pairs, latest, pair_of, pairs_at, seems_next, timestamp, timestamps, used}
 use Rattle.clock_track.specs.Search.{IsCovering, IsPair}
 use Rattle.clock_track.proofs.Lists.{all-joined, all-made, found-in}

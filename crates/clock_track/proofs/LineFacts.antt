@@ -10,7 +10,7 @@ use Rattle.time_unfold.specs.Lines.{floor_of}
 use Rattle.time_unfold.proofs.Floors.{floor_above, floor_below, times_more}
 use Rattle.clock_track.specs.declared.pair.Pair.{Pair}
 use Rattle.clock_track.specs.Limits.{IsClockLine, IsNear, IsSmall}
-use Rattle.clock_track.specs.Pairs.{Covers, IsJoined, Spot, event_line, nearest_event, nominal, period, spot_by, step_den, step_num}
+use Rattle.clock_track.specs.PairLines.{Covers, IsJoined, Spot, event_line, nearest_event, nominal, period, spot_by, step_den, step_num}
 use Rattle.clock_track.specs.Search.{IsCovering}
 
 -- ---- numbers

@@ -12,7 +12,7 @@ use Rattle.time_unfold.proofs.Floors.{neg_times, times_more}
 use Rattle.clock_track.specs.declared.bounds.Bounds.{Bounds}
 use Rattle.clock_track.specs.declared.clock_row.ClockRow.{ClockRow}
 use Rattle.clock_track.specs.declared.pair.Pair.{Pair}
-use Rattle.clock_track.specs.Pairs.{IsJoined, covers, is_joined, nominal, period, step_den, step_num}
+use Rattle.clock_track.specs.PairLines.{IsJoined, covers, is_joined, nominal, period, step_den, step_num}
 use Rattle.clock_track.specs.Rows.{across, inside, joined_by, pair_of, pairs_at, seems_next, timestamp, timestamps}
 use Rattle.clock_track.specs.state.Bounds.{AreGroups, HasInside, HasPairs, IsLead, IsOutside, IsWithin, Widens}
 use Rattle.clock_track.specs.state.Search.{kept}

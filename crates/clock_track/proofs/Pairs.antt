@@ -5,7 +5,7 @@ use Rattle.std.proofs.lemmas.Bool.{le-leb}
 use Rattle.std.proofs.lemmas.Bool.Decides.{nat_tests}
 use Rattle.std.proofs.lemmas.Int.{ints}
 use Rattle.clock_track.specs.declared.pair.Pair.{Pair}
-use Rattle.clock_track.specs.Pairs.{Covers, IsJoined, at_least_0, covers, is_joined, nominal, period, reach, step_den, step_num}
+use Rattle.clock_track.specs.PairLines.{Covers, IsJoined, at_least_0, covers, is_joined, nominal, period, reach, step_den, step_num}
 
 by_difference : (a b : ℕ) (z : ℤ) → z ≡ pos b -ℤ pos a → at_least_0 z ≡ b - a
 by_difference a b (pos n) e = omega (arith, ints)

@@ -8,7 +8,7 @@ use Rattle.std.proofs.lemmas.Int.{ints}
 use Rattle.time_unfold.specs.Stamps.{find_last}
 use Rattle.clock_track.specs.declared.clock_row.ClockRow.{ClockRow}
 use Rattle.clock_track.specs.declared.pair.Pair.{Pair}
-use Rattle.clock_track.specs.Pairs.{IsJoined, covers, is_joined}
+use Rattle.clock_track.specs.PairLines.{IsJoined, covers, is_joined}
 use Rattle.clock_track.specs.Rows.{across, joined_by, pair_of, seems_next, timestamp, timestamps}
 use Rattle.clock_track.specs.Search.{IsAfter}
 use Rattle.clock_track.specs.state.Search.{kept}

@@ -3,7 +3,7 @@ use Rattle.std.specs.Prelude.{◌≡◌, ℕ, ◌+◌, ◌-◌, ◌^◌, ◌<◌
 use Rattle.clock_track.specs.declared.clock_row.ClockRow.{ClockRow}
 use Rattle.clock_track.specs.declared.pair.Pair.{Pair}
 use Rattle.clock_track.specs.Examples.{worked_row, worked_rows}
-use Rattle.clock_track.specs.Pairs.{IsJoined}
+use Rattle.clock_track.specs.PairLines.{IsJoined}
 use Rattle.clock_track.specs.Rows.{pair_of, seems_next, timestamp, timestamps}
 
 -- the timestamps `first` and `second` are accepted as adjacent points of a packet's clock: both are below 2^62, and

@@ -1,4 +1,4 @@
-pub mod Pairs
+pub mod PairLines
 pub mod Rows
 pub mod Limits
 pub mod Search

@@ -5,7 +5,7 @@ use Rattle.avtp_base.specs.Octets.{bits}
 use Rattle.time_unfold.specs.Stamps.{find_last, last_of, same_flag}
 use Rattle.clock_track.specs.declared.clock_row.ClockRow.{ClockRow}
 use Rattle.clock_track.specs.declared.pair.Pair.{Pair}
-use Rattle.clock_track.specs.Pairs.{Covers, Spot, covers, is_joined, pull_down, pull_up, spot_by}
+use Rattle.clock_track.specs.PairLines.{Covers, Spot, covers, is_joined, pull_down, pull_up, spot_by}
 
 -- ---- the timestamps of a packet
 

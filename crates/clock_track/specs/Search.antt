@@ -2,7 +2,7 @@
 use Rattle.std.specs.Prelude.{ℤ, pos, ◌+ℤ◌, ◌-ℤ◌, ◌*ℤ◌, ◌<ℤ◌, ℕ, ◌*◌}
 use Rattle.clock_track.specs.declared.pair.Pair.{Pair}
 use Rattle.clock_track.specs.Limits.{IsSmall}
-use Rattle.clock_track.specs.Pairs.{Covers, IsJoined, nominal, step_den}
+use Rattle.clock_track.specs.PairLines.{Covers, IsJoined, nominal, step_den}
 
 -- a joined pair with numbers within the limits of the format
 pub record IsPair (pair : Pair) : Type 0 where

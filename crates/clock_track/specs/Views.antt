@@ -4,7 +4,7 @@ use Rattle.clock_track.specs.declared.clock_row.ClockRow.{ClockRow}
 use Rattle.clock_track.specs.declared.clock_row.Points.{Points}
 use Rattle.clock_track.specs.declared.answer.ClockAnswer.{ClockAnswer}
 use Rattle.clock_track.specs.declared.answer.ClockAnswer.TheVariants.{OnLine, NoClock}
-use Rattle.clock_track.specs.Pairs.{Spot}
+use Rattle.clock_track.specs.PairLines.{Spot}
 
 -- the value of a clock packet with borrowed timestamps
 abbrev pub row_of : Points → ClockRow

@@ -3,7 +3,7 @@
 ghost use Rattle.std.specs.Prelude.{Contains, ◌≢◌, ◌≡◌, ◌+◌, ◌*◌, ◌≤◌, ℕ, ℤ, List, All, None, Some, false, true, pos};
 ghost use Rattle.clock_track.specs.declared.clock_row.ClockRow.{ClockRow};
 ghost use Rattle.clock_track.specs.Examples.{second_pair, worked_rows};
-ghost use Rattle.clock_track.specs.Pairs.{Covers, IsJoined, spot_by};
+ghost use Rattle.clock_track.specs.PairLines.{Covers, IsJoined, spot_by};
 ghost use Rattle.clock_track.specs.Adjacent.{AreAcross, AreInside, followed_rows, pair_across, pair_inside};
 ghost use Rattle.clock_track.specs.Rows.{IsLatest, clock_spot, joined_pairs, latest, window};
 

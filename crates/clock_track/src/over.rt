@@ -2,7 +2,7 @@
 
 ghost use Rattle.std.specs.Prelude.{◌≡◌, ◌≤◌, All, IfSome, option_map};
 ghost use Rattle.clock_track.specs.Limits.{IsClockLine, IsNotable, IsShift};
-ghost use Rattle.clock_track.specs.Pairs.{spot_by};
+ghost use Rattle.clock_track.specs.PairLines.{spot_by};
 ghost use Rattle.clock_track.specs.Rows.{clock_spot, latest as latest_of, used};
 ghost use Rattle.clock_track.specs.state.Search.{AreRecent, AreSearched};
 ghost use Rattle.clock_track.specs.Views.{answered};

@@ -2,7 +2,7 @@
 
 ghost use Rattle.std.specs.Prelude.{Some, ◌≡◌, ◌≤◌, ◌<◌, ◌*◌, ◌^◌, ◌↔◌, pos, ◌-ℤ◌, ◌*ℤ◌, ◌+ℤ◌, IsTrue, ℕ};
 ghost use Rattle.clock_track.specs.Limits.{IsSmall};
-ghost use Rattle.clock_track.specs.Pairs.{covers as covers_of, is_joined as is_joined_of, nominal as nominal_of, period as period_of, spot_by, step_den, step_num as step_num_of};
+ghost use Rattle.clock_track.specs.PairLines.{covers as covers_of, is_joined as is_joined_of, nominal as nominal_of, period as period_of, spot_by, step_den, step_num as step_num_of};
 ghost use Rattle.clock_track.specs.Search.{IsAfter, IsCovering, IsPair};
 ghost use Rattle.clock_track.specs.state.Numbers.{AreNarrow, IsExact, IsLongest};
 ghost use Rattle.clock_track.specs.Views.{answered};

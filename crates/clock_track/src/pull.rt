@@ -2,7 +2,7 @@
 
 ghost use Rattle.std.specs.Prelude.{◌≡◌};
 ghost use Rattle.clock_track.specs.Limits.{IsFactor};
-ghost use Rattle.clock_track.specs.Pairs.{pull_down as pull_down_of, pull_up as pull_up_of};
+ghost use Rattle.clock_track.specs.PairLines.{pull_down as pull_down_of, pull_up as pull_up_of};
 
 /// The numerator of the factor that the code `pull` names. The base frequency is multiplied by this factor (IEEE
 /// 1722-2016, 10).

@@ -13,7 +13,7 @@ use Rattle.cvf_format.specs.declared.piece.Lost.{Lost}
 use Rattle.cvf_format.specs.declared.piece.Lost.TheVariants.{Broken, Long}
 use Rattle.cvf_format.specs.declared.piece.Pushed.{Pushed}
 use Rattle.cvf_format.specs.declared.piece.Piece.TheVariants as variant
-use Rattle.cvf_format.specs.Stretches.{Fragment, Event, packet, cut, begins, goes_on, completes, stamps, last_stretch, unit_of, longest_unit, most_fragments, is_within, is_complete, before_last, waiting, piece_of, is_joined, given_up, reason_of, whole_of, whole_unit, mark_of, sequence_numbers}
+use Rattle.cvf_format.specs.WholeOrBroken.{Fragment, Event, packet, cut, begins, goes_on, completes, stamps, last_stretch, unit_of, longest_unit, most_fragments, is_within, is_complete, before_last, waiting, piece_of, is_joined, given_up, reason_of, whole_of, whole_unit, mark_of, sequence_numbers}
 use Rattle.cvf_format.specs.Assembly.{Assembly, Keeps, KeepsAll, Pushes, StandsFor, first_stamp, last_of, shown_unit, longest_body}
 use Rattle.cvf_format.specs.state.Assembly.{IsPushed, Leaves, agree, goes_on_here, has_room, gave_up, with_first, with_next, settled, lost_for}
 use Rattle.cvf_format.proofs.StretchLemmas.{and_left, and_right, continues, step, last_packet, last_cut, before_more, complete_more, complete_one, complete_last, unit_more, last_more, stamps_more}

@@ -1,7 +1,7 @@
 -- The size of the unit that the next packet completes.
 use Rattle.std.proofs.Common.{◌≡◌, ℕ, ◌+◌, ◌≤◌, Bool, true, false, List, [], ◌∷◌, ◌++◌, length, arith, refl, sym, ap, ◌∙◌, length-append}
 use Rattle.std.specs.Prelude.{◌&&◌, not, if◌then◌else◌}
-use Rattle.cvf_format.specs.Stretches.{Fragment, Event, packet, begins, completes, whole_unit}
+use Rattle.cvf_format.specs.WholeOrBroken.{Fragment, Event, packet, begins, completes, whole_unit}
 use Rattle.cvf_format.specs.Assembly.{Assembly, StandsFor, longest_body}
 use Rattle.cvf_format.specs.state.Assembly.{goes_on_here, has_room, size_with}
 use Rattle.cvf_format.proofs.AssemblyLemmas.{pushed_apart, pushed_first, pushed_long, pushed_next}

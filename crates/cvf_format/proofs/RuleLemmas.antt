@@ -8,7 +8,7 @@ use Rattle.std.proofs.lemmas.List.Elements.{All-cons, All-head, All-tail}
 use Rattle.std.proofs.lemmas.List.{map-append}
 use Rattle.std.proofs.lemmas.Bool.Decides.{Decides-int_eq}
 use Rattle.std.proofs.lemmas.Bool.{not-true}
-use Rattle.cvf_format.specs.Stretches.{Fragment, Event, packet, cut, is_cut, after_cuts, begins, completes, follows, are_linked, stamps, all_equal, is_stretch, stretch_of, last_stretch, sequence_numbers, is_within, is_complete, waiting, held, whole_of, most_fragments, longest_unit}
+use Rattle.cvf_format.specs.WholeOrBroken.{Fragment, Event, packet, cut, is_cut, after_cuts, begins, completes, follows, are_linked, stamps, all_equal, is_stretch, stretch_of, last_stretch, sequence_numbers, is_within, is_complete, waiting, held, whole_of, most_fragments, longest_unit}
 use Rattle.cvf_format.specs.StretchRules.{GoesOn, IsStretch, EndsWith}
 use Rattle.cvf_format.proofs.StretchLemmas.{and_left, and_right}
 use Rattle.cvf_format.proofs.AssemblyLemmas.{within_lengths}

@@ -3,7 +3,7 @@ use Rattle.std.proofs.Common.{◌≡◌, Bool, true, false, List, [], ◌∷◌,
 use Rattle.std.specs.Prelude.{not, nat_lt, map}
 use Rattle.std.proofs.Math.Bool.{and-false}
 use Rattle.std.proofs.lemmas.List.{append-nil}
-use Rattle.cvf_format.specs.Stretches.{Fragment, Event, packet, cut, after_cuts, begins, goes_on, completes, follows, are_linked, is_stretch, stretch_of, last_stretch, is_within, is_complete, before_last, waiting, held, piece_of, is_joined}
+use Rattle.cvf_format.specs.WholeOrBroken.{Fragment, Event, packet, cut, after_cuts, begins, goes_on, completes, follows, are_linked, is_stretch, stretch_of, last_stretch, is_within, is_complete, before_last, waiting, held, piece_of, is_joined}
 use Rattle.cvf_format.specs.Assembly.{last_of}
 use Rattle.cvf_format.specs.Settled.{packets, settled, settled_as, settled_by}
 use Rattle.cvf_format.proofs.StretchLemmas.{after_packet, and_left, continues, alone, step, last_packet, last_cut, before_more, complete_last}

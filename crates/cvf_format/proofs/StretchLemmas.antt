@@ -12,7 +12,7 @@ use Rattle.std.proofs.Math.Bool.{and-true}
 use Rattle.std.proofs.lemmas.Bool.{and_parts}
 use Rattle.cvf_format.specs.declared.cvf.NalPart.{NalPart}
 use Rattle.cvf_format.specs.declared.cvf.NalPart.TheVariants.{Single, First, Middle, Last}
-use Rattle.cvf_format.specs.Stretches.{Fragment, Event, packet, cut, is_cut, after_cuts, begins, goes_on, completes, follows, are_linked, stamps, all_equal, is_stretch, stretch_of, last_stretch, unit_of, is_complete, before_last}
+use Rattle.cvf_format.specs.WholeOrBroken.{Fragment, Event, packet, cut, is_cut, after_cuts, begins, goes_on, completes, follows, are_linked, stamps, all_equal, is_stretch, stretch_of, last_stretch, unit_of, is_complete, before_last}
 use Rattle.cvf_format.specs.Assembly.{first_stamp, last_of}
 use Rattle.cvf_format.specs.state.Assembly.{agree}
 

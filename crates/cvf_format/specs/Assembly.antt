@@ -4,7 +4,7 @@ use Rattle.std.specs.Prelude.{◌≡◌, ℕ, ◌+◌, ◌%◌, Bool, if◌then�
 use Rattle.cvf_format.specs.declared.cvf.CvfView.{CvfView}
 use Rattle.cvf_format.specs.declared.piece.Mark.{Mark}
 use Rattle.cvf_format.specs.declared.piece.Pushed.{Pushed}
-use Rattle.cvf_format.specs.Stretches.{Fragment, Event, packet, cut, given_up, reason, piece, mark_of, unit_of, stamps, held, lost_marks, whole_unit, sequence_numbers}
+use Rattle.cvf_format.specs.WholeOrBroken.{Fragment, Event, packet, cut, given_up, reason, piece, mark_of, unit_of, stamps, held, lost_marks, whole_unit, sequence_numbers}
 
 -- The state of an assembler. `bytes` are the bytes of the unit so far, and `whole` is true if the unit is complete.
 -- `held` are the marks of the packets that wait for the rest of their unit. `lost` are the marks of the packets that

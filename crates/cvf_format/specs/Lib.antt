@@ -4,5 +4,5 @@ pub mod Cvf
 pub mod Packets
 pub mod Settled
 pub mod StretchRules
-pub mod Stretches
+pub mod WholeOrBroken
 pub mod state

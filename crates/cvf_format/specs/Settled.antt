@@ -4,7 +4,7 @@
 use Rattle.std.specs.Prelude.{List, [], ◌∷◌, ◌++◌}
 use Rattle.cvf_format.specs.declared.piece.Piece.{Piece}
 use Rattle.cvf_format.specs.declared.piece.Piece.TheVariants.{Whole, Held, Lost}
-use Rattle.cvf_format.specs.Stretches.{Fragment, Event, packet, cut, last_stretch, piece, given_up}
+use Rattle.cvf_format.specs.WholeOrBroken.{Fragment, Event, packet, cut, last_stretch, piece, given_up}
 
 -- all packets of a list of events, in order
 abbrev pub packets : List Event → List Fragment

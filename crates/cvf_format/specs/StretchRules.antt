@@ -2,7 +2,7 @@
 use Rattle.std.specs.Prelude.{◌≡◌, ◌≢◌, ◌+◌, ◌%◌, true, false, ℤ, List, [], ◌∷◌, ◌++◌, map}
 use Rattle.std.specs.List.{All}
 use Rattle.std.specs.Option.{IfSome}
-use Rattle.cvf_format.specs.Stretches.{Fragment, Event, packet, begins, goes_on, completes, sequence_numbers}
+use Rattle.cvf_format.specs.WholeOrBroken.{Fragment, Event, packet, begins, goes_on, completes, sequence_numbers}
 
 -- The packet `after` continues the unit of the packet `before`. `after` carries a middle or last fragment, and `before`
 -- did not complete the unit. Both packets carry the same first byte of the unit. The sequence number of `after` follows

@@ -1,7 +1,7 @@
 //! Puts NAL units together from packets (RFC 6184, 5.8).
 
 ghost use Rattle.std.specs.Prelude.{◌≡◌, ◌+◌, ◌%◌, ◌≤◌, ◌<◌, ◌++◌, ◌∷◌, [], length, slice_get, List, IfOk, IsTrue, IsSome, true, if◌then◌else◌};
-ghost use Rattle.cvf_format.specs.Stretches.{Event, packet, lost_marks, sequence_numbers, whole_unit, completes, goes_on, begins};
+ghost use Rattle.cvf_format.specs.WholeOrBroken.{Event, packet, lost_marks, sequence_numbers, whole_unit, completes, goes_on, begins};
 ghost use Rattle.cvf_format.specs.Assembly.{Cuts, Pushes, StandsFor, fragment_of, longest_body, shown_unit};
 ghost use Rattle.cvf_format.specs.state.Assembly.{Leaves, agree, broken, gave_up, goes_on_here, has_room, lost_for, settled, size_with, with_first, with_next};
 
@@ -43,7 +43,7 @@ pub struct Assembler {
 impl Model for Assembler {
     ghost use Rattle.std.specs.Prelude.{◌≤◌, vec_len, vec_capacity};
     ghost use Rattle.cvf_format.specs.Assembly.{Assembly};
-    ghost use Rattle.cvf_format.specs.Stretches.{longest_unit, most_fragments};
+    ghost use Rattle.cvf_format.specs.WholeOrBroken.{longest_unit, most_fragments};
 
     ghost Value = { Assembly };
 

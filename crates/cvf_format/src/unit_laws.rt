@@ -3,7 +3,7 @@
 ghost use Rattle.std.specs.Prelude.{◌≡◌, ◌≤◌, ◌++◌, ◌∷◌, ◌↔◌, ◌⊎◌, true, [], length, List};
 ghost use Rattle.cvf_format.specs.Settled.{packets, settled, settled_by};
 ghost use Rattle.cvf_format.specs.StretchRules.{EndsWith, IsStretch};
-ghost use Rattle.cvf_format.specs.Stretches.{Event, Fragment, given_up, held, is_stretch, last_stretch, longest_unit, most_fragments, whole_unit};
+ghost use Rattle.cvf_format.specs.WholeOrBroken.{Event, Fragment, given_up, held, is_stretch, last_stretch, longest_unit, most_fragments, whole_unit};
 
 /// `is_stretch` is true of exactly those lists of packets that the rules call a stretch.
 #[tactic(auto, using(crate::proofs::RuleLemmas::stretch_so, crate::proofs::RuleLemmas::stretch_is))]

@@ -10,7 +10,7 @@ use Rattle.sample_schedule.specs.declared.shown.Reason.{Reason}
 use Rattle.sample_schedule.specs.declared.shown.Shown.{Shown}
 use Rattle.sample_schedule.specs.declared.shown.Shown.TheVariants.{Present, Flag}
 use Rattle.device_rack.specs.declared.silent_bytes.Silence.{Silence}
-use Rattle.device_rack.specs.Output.{annexb, batch_of, batches, raw, raw_behind, sample_batches, silence_before, units}
+use Rattle.device_rack.specs.RawOutput.{annexb, batch_of, batches, raw, raw_behind, sample_batches, silence_before, units}
 
 kept_more : (test : Presented → Bool) (items : List Shown) (batch : Presented)
     → filter test (batches (items ++ Present batch ∷ [])) ≡ filter test (batches items) ++ filter test (batch ∷ [])

@@ -6,7 +6,7 @@ use Rattle.std.proofs.lemmas.List.FromFn.{map-range_with_len_more, take-map-rang
 use Rattle.std.proofs.Math.Nat.{mul-add-mod_self_left}
 use Rattle.device_rack.specs.declared.silent_bytes.Silence.{Silence}
 use Rattle.device_rack.specs.declared.silent_bytes.Silence.TheVariants.{Zero, Am824}
-use Rattle.device_rack.specs.Output.{silence_of, silent_byte}
+use Rattle.device_rack.specs.RawOutput.{silence_of, silent_byte}
 
 -- silence repeats with each quadlet
 silent_byte-again : (silence : Silence) (q j : ℕ) → silent_byte silence (4 * q + j) ≡ silent_byte silence j

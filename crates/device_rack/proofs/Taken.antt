@@ -9,7 +9,7 @@ use Rattle.sample_schedule.specs.declared.shown.Shown.{Shown}
 use Rattle.sample_schedule.specs.declared.shown.Shown.TheVariants.{Present}
 use Rattle.device_rack.specs.declared.raw.RawDevice.{RawDevice}
 use Rattle.device_rack.specs.declared.annex_b.AnnexBDevice.{AnnexBDevice}
-use Rattle.device_rack.specs.Output.{annexb, raw, sample_batches, silence_before}
+use Rattle.device_rack.specs.RawOutput.{annexb, raw, sample_batches, silence_before}
 use Rattle.device_rack.specs.Written.{AppendsUpTo, HasTakenRaw, HasTakenUnits, IsPreviousOf, annexb_failed, annexb_sink, raw_failed, raw_sink, silence_in}
 use Rattle.device_rack.specs.state.Written.{AppendsPrefix}
 use Rattle.device_rack.proofs.Outputs.{annexb_of_unit, last_more, raw_of_samples, samples_of_samples}

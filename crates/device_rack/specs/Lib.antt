@@ -4,7 +4,7 @@ pub mod Handed
 pub mod Outlets
 pub mod OutputFiles
 pub mod Laws
-pub mod Output
+pub mod RawOutput
 pub mod Racks
 pub mod Written
 pub mod state

@@ -10,7 +10,7 @@ use Rattle.device_rack.specs.declared.annex_b.AnnexBDevice.{AnnexBDevice}
 use Rattle.device_rack.specs.declared.previous.Previous.{Previous}
 use Rattle.device_rack.specs.declared.raw.RawDevice.{RawDevice}
 use Rattle.device_rack.specs.declared.silent_bytes.Silence.{Silence}
-use Rattle.device_rack.specs.Output.{annexb, raw, sample_batches, sample_size}
+use Rattle.device_rack.specs.RawOutput.{annexb, raw, sample_batches, sample_size}
 
 -- what is kept of a batch: its line, the instant after its last sample, and the number of bytes in one sample
 pub record IsPrevious (previous : Previous) (batch : Presented) : Type 0 where

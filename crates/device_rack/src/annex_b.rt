@@ -44,7 +44,7 @@ impl<S: Sink + Drop> Device for AnnexBDevice<S> {
     ghost use Rattle.avtp_base.specs.Faults.{IsCounted};
     ghost use Rattle.avtp_base.specs.States.{SinkState};
     ghost use Rattle.sample_schedule.specs.declared.shown.Shown.{Shown as ShownValue};
-    ghost use Rattle.device_rack.specs.Output.{annexb};
+    ghost use Rattle.device_rack.specs.RawOutput.{annexb};
     ghost use Rattle.device_rack.specs.Written.{AppendsUpTo, HasTakenUnits, annexb_sink, annexb_failed};
 
     ghost took = { λ device items. (start : SinkState) × HasTakenUnits S.state start device items };

@@ -6,7 +6,7 @@ ghost use Rattle.std.specs.List.{AllZip};
 ghost use Rattle.sample_schedule.specs.declared.shown.Shown.{Shown};
 ghost use Rattle.device_rack.specs.Handed.{AreHanded, HandsAll};
 ghost use Rattle.device_rack.specs.Laws.{IsCarried, nal_units_of};
-ghost use Rattle.device_rack.specs.Output.{annexb, units};
+ghost use Rattle.device_rack.specs.RawOutput.{annexb, units};
 ghost use Rattle.device_rack.specs.Racks.{places_of};
 
 use crate::rack::Rack;

@@ -22,7 +22,7 @@ impl Previous {
     ghost use Rattle.std.specs.Prelude.{◌≡◌, ◌-ℤ◌, Option};
     ghost use Rattle.sample_schedule.specs.Batches.{Presented};
     ghost use Rattle.device_rack.specs.declared.silent_bytes.Silence.{Silence};
-    ghost use Rattle.device_rack.specs.Output.{samples_in, silence_before, silence_of, silent_bytes};
+    ghost use Rattle.device_rack.specs.RawOutput.{samples_in, silence_before, silence_of, silent_bytes};
     ghost use Rattle.device_rack.specs.Written.{IsPrevious, IsPreviousOf};
 
     /// The maximum number of bytes of silence between two batches.

@@ -56,7 +56,7 @@ impl<S: Sink + Drop> Device for RawDevice<S> {
     ghost use Rattle.avtp_base.specs.States.{SinkState};
     ghost use Rattle.device_rack.specs.Devices.{FailsAsTold};
     ghost use Rattle.sample_schedule.specs.declared.shown.Shown.{Shown as ShownValue};
-    ghost use Rattle.device_rack.specs.Output.{raw};
+    ghost use Rattle.device_rack.specs.RawOutput.{raw};
     ghost use Rattle.device_rack.specs.Written.{AppendsUpTo, HasTakenRaw, raw_sink, raw_failed, silence_in};
 
     ghost took = { λ device items. (start : SinkState) × HasTakenRaw S.state start device items };

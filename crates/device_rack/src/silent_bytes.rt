@@ -14,7 +14,7 @@ const LABEL: u8 = 0x40;
 
 impl Silence {
     ghost use Rattle.std.specs.Prelude.{◌≡◌};
-    ghost use Rattle.device_rack.specs.Output.{silent_byte, silence_of};
+    ghost use Rattle.device_rack.specs.RawOutput.{silent_byte, silence_of};
 
     /// The number of bytes in a piece of silence. A piece consists of whole quadlets.
     pub(crate) const PIECE: usize = 1024;

@@ -1,7 +1,7 @@
 //! Bytes that go to a sink.
 
 ghost use Rattle.std.specs.Prelude.{◌++◌, ◌∷◌};
-ghost use Rattle.device_rack.specs.Output.{silence_of};
+ghost use Rattle.device_rack.specs.RawOutput.{silence_of};
 ghost use Rattle.device_rack.specs.state.Written.{HasWritten};
 
 use crate::silent_bytes::Silence;

@@ -20,7 +20,7 @@ use Rattle.time_unfold.specs.Stamps.{find_last}
 use Rattle.time_unfold.proofs.Floors.{floor_above, floor_below, one_more, times_more}
 use Rattle.clock_track.specs.declared.clock_row.ClockRow.{ClockRow}
 use Rattle.clock_track.specs.declared.pair.Pair.{Pair}
-use Rattle.clock_track.specs.Pairs.{Covers, IsJoined, Spot, covers, period, spot_by, step_den, step_num}
+use Rattle.clock_track.specs.PairLines.{Covers, IsJoined, Spot, covers, period, spot_by, step_den, step_num}
 use Rattle.clock_track.specs.Rows.{clock_spot, joined_pairs, latest as latest_pair, window}
 use Rattle.clock_track.proofs.Latest.{all_joined}
 use Rattle.clock_track.proofs.Pairs.{covers_so}

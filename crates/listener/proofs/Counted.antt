@@ -21,7 +21,7 @@ use Rattle.sample_schedule.proofs.LawLemmas.{each-once}
 use Rattle.packet_journal.specs.Deliveries.{Delivery, belongs, belongs_to_clock, clock_kinds, delivery, is_avtp, is_delivered, packet_in, stream_kinds}
 use Rattle.listener.specs.declared.plan.ListenPlan.{ListenPlan}
 use Rattle.listener.specs.Heard.{counts_of, deliveries_of, entries_in, is_flag, is_present, items_in, schedule_plan, shown_of as shown_list}
-use Rattle.cvf_format.specs.Stretches.{last_stretch}
+use Rattle.cvf_format.specs.WholeOrBroken.{last_stretch}
 use Rattle.listener.specs.Items.{MadeItem, events_to, items_of, made_entry, made_of_one, sources, unit_by}
 use Rattle.listener.specs.Laws.{fragments_in}
 use Rattle.listener.proofs.Made.{IsStreamed, OfEach, all_made, count-append, is_streamed, items_all, last_streamed, tally, tally-cons}

@@ -16,7 +16,7 @@ use Rattle.cvf_format.specs.declared.piece.Lost.TheVariants.{Broken}
 use Rattle.cvf_format.specs.declared.piece.Piece.{Piece}
 use Rattle.cvf_format.specs.declared.piece.Piece.TheVariants.{Whole, Held, Lost}
 use Rattle.cvf_format.specs.StretchRules.{EndsWith}
-use Rattle.cvf_format.specs.Stretches.{Event, Fragment, after_cuts, before_last, cut, given_up, held, is_complete, is_cut, is_joined, is_stretch, is_within, last_stretch, lost_marks, mark_of as mark_in, packet, piece, reason, stretch_of, waiting as waiting_of, whole_unit}
+use Rattle.cvf_format.specs.WholeOrBroken.{Event, Fragment, after_cuts, before_last, cut, given_up, held, is_complete, is_cut, is_joined, is_stretch, is_within, last_stretch, lost_marks, mark_of as mark_in, packet, piece, reason, stretch_of, waiting as waiting_of, whole_unit}
 use Rattle.cvf_format.proofs.AssemblyLemmas.{waits_none}
 use Rattle.cvf_format.proofs.RuleLemmas.{some_stretch}
 use Rattle.cvf_format.proofs.StretchLemmas.{before_more, last_cut}

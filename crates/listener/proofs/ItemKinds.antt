@@ -7,7 +7,7 @@ use Rattle.crf_format.specs.Crf.{crf_subtype}
 use Rattle.cvf_format.specs.Cvf.{cvf_subtype}
 use Rattle.cvf_format.specs.declared.piece.Piece.{Piece}
 use Rattle.cvf_format.specs.declared.piece.Piece.TheVariants.{Whole, Held, Lost}
-use Rattle.cvf_format.specs.Stretches.{given_up, piece, reason}
+use Rattle.cvf_format.specs.WholeOrBroken.{given_up, piece, reason}
 use Rattle.sample_schedule.specs.declared.shown.Reason.{Reason}
 use Rattle.sample_schedule.specs.declared.shown.Reason.TheVariants.{Broken as BrokenUnit}
 use Rattle.packet_journal.specs.Deliveries.{Delivery}

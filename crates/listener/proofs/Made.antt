@@ -14,7 +14,7 @@ use Rattle.cvf_format.specs.declared.piece.Lost.TheVariants.{Broken, Long}
 use Rattle.cvf_format.specs.declared.piece.Piece.{Piece}
 use Rattle.cvf_format.specs.declared.piece.Piece.TheVariants.{Whole, Held, Lost}
 use Rattle.cvf_format.specs.Settled.{packets, settled_as}
-use Rattle.cvf_format.specs.Stretches.{Event, after_cuts, before_last, Fragment, cut, given_up, held, is_complete, is_joined, is_passed, is_within, last_stretch, packet, piece, piece_of, reason, waiting as waiting_of}
+use Rattle.cvf_format.specs.WholeOrBroken.{Event, after_cuts, before_last, Fragment, cut, given_up, held, is_complete, is_joined, is_passed, is_within, last_stretch, packet, piece, piece_of, reason, waiting as waiting_of}
 use Rattle.cvf_format.proofs.AssemblyLemmas.{waits_none}
 use Rattle.cvf_format.proofs.SettledLemmas.{event_settles}
 use Rattle.cvf_format.proofs.StretchLemmas.{before_more, last_cut}

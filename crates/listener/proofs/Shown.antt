@@ -30,7 +30,7 @@ use Rattle.listener.specs.declared.plan.ListenPlan.{ListenPlan}
 use Rattle.listener.specs.Heard.{deliveries_of, entries_in, items_in, schedule_plan, shown_of}
 use Rattle.listener.specs.Items.{MadeItem, aaf_item, events_to, flagged, made_entry, unit_by, blocks_of, clock_row, entries, entry_of, iec_item, item_of, items_of, refused_or, samples_of, sources}
 use Rattle.listener.specs.Laws.{IsInOneItem, IsShownItem, frame_of, shown_by, shown_of_frame, verdict_of}
-use Rattle.cvf_format.specs.Stretches.{last_stretch}
+use Rattle.cvf_format.specs.WholeOrBroken.{last_stretch}
 use Rattle.listener.proofs.ItemKinds.{at_place}
 use Rattle.listener.proofs.Made.{OfEach, all_made, count-cons, find_one, items_all, last_all, last_counts, same_place, tally}
 

@@ -4,7 +4,7 @@ use Rattle.std.specs.Prelude.{◌==◌, neg_ℤ, nat_lt, if◌then◌else◌, op
 use Rattle.std.specs.List.{filter_map}
 use Rattle.std.specs.Option.{option_or}
 use Rattle.std.proofs.lemmas.Bool.Decides.{nat_tests}
-use Rattle.clock_track.specs.Pairs.{Spot}
+use Rattle.clock_track.specs.PairLines.{Spot}
 use Rattle.clock_track.specs.Rows.{clock_spot}
 use Rattle.time_unfold.specs.Lines.{instant_at}
 use Rattle.time_unfold.specs.Stamps.{found}

@@ -21,7 +21,7 @@ use Rattle.crf_format.specs.Crf.{crf_subtype}
 use Rattle.cvf_format.specs.Cvf.{cvf_subtype}
 use Rattle.cvf_format.specs.declared.piece.Piece.{Piece}
 use Rattle.cvf_format.specs.declared.piece.Piece.TheVariants.{Whole, Held, Lost}
-use Rattle.cvf_format.specs.Stretches.{given_up, piece, reason}
+use Rattle.cvf_format.specs.WholeOrBroken.{given_up, piece, reason}
 use Rattle.sample_schedule.specs.declared.shown.Reason.{Reason}
 use Rattle.sample_schedule.specs.declared.shown.Reason.TheVariants.{Broken as BrokenUnit}
 use Rattle.listener.specs.Items.{MadeItem, entries, events_to, flagged, given_after, given_by, given_up_by, items_of, left_at_end, lost_for, made_of_one, own_by, piece_by, unit_by, video_by}

@@ -13,7 +13,7 @@ use Rattle.cvf_format.specs.Cvf.{Cvf, SpellsCvf, cvf_of, cvf_refusal, cvf_subtyp
 use Rattle.cvf_format.specs.declared.piece.Piece.TheVariants.{Whole, Held, Lost}
 use Rattle.cvf_format.specs.declared.piece.Lost.TheVariants.{Broken, Long}
 use Rattle.cvf_format.specs.StretchRules.{EndsWith, GoesOn, IsStretch}
-use Rattle.cvf_format.specs.Stretches.{Event, Fragment, begins, completes, cut, goes_on, is_complete, is_passed, is_within, last_stretch, packet, piece, piece_of, unit_of, whole_of, whole_unit}
+use Rattle.cvf_format.specs.WholeOrBroken.{Event, Fragment, begins, completes, cut, goes_on, is_complete, is_passed, is_within, last_stretch, packet, piece, piece_of, unit_of, whole_of, whole_unit}
 use Rattle.cvf_format.proofs.CvfLemmas.{cvf_again, one_packet}
 use Rattle.cvf_format.proofs.RuleLemmas.{some_stretch}
 use Rattle.sample_schedule.specs.declared.entry.Entry.TheVariants.{Item as OfItem}

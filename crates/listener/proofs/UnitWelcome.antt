@@ -18,7 +18,7 @@ use Rattle.cvf_format.specs.declared.cvf.NalPart.TheVariants.{Single as SingleNa
 use Rattle.cvf_format.specs.declared.piece.Piece.{Piece}
 use Rattle.cvf_format.specs.declared.piece.Piece.TheVariants.{Whole, Held}
 use Rattle.cvf_format.specs.Cvf.{Cvf, cvf_of, cvf_refusal, cvf_subtype, plain_cvf}
-use Rattle.cvf_format.specs.Stretches.{Event, Fragment, are_linked, before_last, begins, completes, given_up, goes_on, held, is_complete, is_joined, is_stretch, is_within, last_stretch, longest_unit, most_fragments, packet, piece, piece_of, reason, sequence_numbers, stamps, unit_of, whole_unit}
+use Rattle.cvf_format.specs.WholeOrBroken.{Event, Fragment, are_linked, before_last, begins, completes, given_up, goes_on, held, is_complete, is_joined, is_stretch, is_within, last_stretch, longest_unit, most_fragments, packet, piece, piece_of, reason, sequence_numbers, stamps, unit_of, whole_unit}
 use Rattle.cvf_format.proofs.SettledLemmas.{one_stretch}
 use Rattle.cvf_format.proofs.StretchLemmas.{complete_more, complete_one}
 use Rattle.pcap_frames.specs.Capture.{Record}

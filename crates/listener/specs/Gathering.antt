@@ -4,7 +4,7 @@ use Rattle.std.specs.Option.{option_to_list}
 use Rattle.cvf_format.specs.Assembly.{Assembly, StandsFor}
 use Rattle.cvf_format.specs.declared.piece.Lost.{Lost as LostFor}
 use Rattle.cvf_format.specs.declared.piece.Mark.{Mark}
-use Rattle.cvf_format.specs.Stretches.{reason}
+use Rattle.cvf_format.specs.WholeOrBroken.{reason}
 use Rattle.sample_schedule.specs.declared.entry.Entry.{Entry}
 use Rattle.sample_schedule.specs.declared.entry.Entry.TheVariants.{Item as OfItem}
 use Rattle.sample_schedule.specs.declared.item.Item.{Item}

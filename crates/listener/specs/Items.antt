@@ -11,7 +11,7 @@ use Rattle.cvf_format.specs.declared.piece.Lost.{Lost as LostFor}
 use Rattle.cvf_format.specs.declared.piece.Lost.TheVariants.{Broken, Long}
 use Rattle.cvf_format.specs.declared.piece.Piece.{Piece}
 use Rattle.cvf_format.specs.declared.piece.Piece.TheVariants.{Whole, Held, Lost}
-use Rattle.cvf_format.specs.Stretches.{Event, given_up, last_stretch, piece, reason, whole_unit}
+use Rattle.cvf_format.specs.WholeOrBroken.{Event, given_up, last_stretch, piece, reason, whole_unit}
 use Rattle.sample_schedule.specs.declared.entry.Entry.{Entry}
 use Rattle.sample_schedule.specs.declared.entry.Entry.TheVariants.{Item as OfItem, Clock as OfClock}
 use Rattle.time_unfold.specs.declared.head_rule.HeadRule.{HeadRule}

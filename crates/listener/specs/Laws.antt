@@ -19,7 +19,7 @@ use Rattle.stream_journal.specs.Journal.{IsAt, Kind, DenseAaf, SparseAaf, Am824,
 use Rattle.packet_journal.specs.Deliveries.{Delivery}
 use Rattle.packet_journal.specs.Delivered.{Delivers, IsCopyOf}
 use Rattle.packet_journal.specs.Packets.{IsConforming, PacketJournal}
-use Rattle.cvf_format.specs.Stretches.{longest_unit, most_fragments}
+use Rattle.cvf_format.specs.WholeOrBroken.{longest_unit, most_fragments}
 use Rattle.packet_journal.specs.Units.{AreUnit, IsContent, first_byte, unit_bytes}
 use Rattle.listener.specs.declared.plan.ListenPlan.{ListenPlan}
 use Rattle.listener.specs.Heard.{entries_in, items_in, schedule_plan}

@@ -4,7 +4,7 @@ use Rattle.avtp_base.specs.declared.refusal.Refusal.{Refusal}
 use Rattle.crf_format.specs.Crf.{crf_subtype}
 use Rattle.cvf_format.specs.Cvf.{Cvf, cvf_of, cvf_refusal, cvf_subtype}
 use Rattle.cvf_format.specs.declared.piece.Mark.{Mark}
-use Rattle.cvf_format.specs.Stretches.{Event, Fragment, completes, cut, held, packet}
+use Rattle.cvf_format.specs.WholeOrBroken.{Event, Fragment, completes, cut, held, packet}
 use Rattle.sample_schedule.specs.declared.shown.Reason.{Reason}
 use Rattle.sample_schedule.specs.declared.shown.Reason.TheVariants.{Malformed, Uncertain, Untimed}
 use Rattle.time_unfold.specs.Time.{unfolded}

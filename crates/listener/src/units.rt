@@ -4,7 +4,7 @@ ghost use Rattle.std.specs.Prelude.{◌≡◌, ◌≢◌, ◌+◌, ◌++◌, [],
 ghost use Rattle.std.specs.Option.{option_to_list};
 ghost use Rattle.cvf_format.specs.Assembly.{longest_body};
 ghost use Rattle.cvf_format.specs.Cvf.{cvf_of, cvf_shape, cvf_subtype};
-ghost use Rattle.cvf_format.specs.Stretches.{completes};
+ghost use Rattle.cvf_format.specs.WholeOrBroken.{completes};
 ghost use Rattle.crf_format.specs.Crf.{crf_subtype};
 ghost use Rattle.packet_journal.specs.Deliveries.{Delivery};
 ghost use Rattle.sample_schedule.specs.Limits.{IsItem};

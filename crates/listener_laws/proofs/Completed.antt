@@ -5,7 +5,7 @@ use Rattle.crf_format.specs.Crf.{crf_subtype}
 use Rattle.cvf_format.specs.Cvf.{cvf_subtype}
 use Rattle.cvf_format.specs.declared.piece.Piece.{Piece}
 use Rattle.cvf_format.specs.declared.piece.Piece.TheVariants.{Whole, Held, Lost}
-use Rattle.cvf_format.specs.Stretches.{piece}
+use Rattle.cvf_format.specs.WholeOrBroken.{piece}
 use Rattle.sample_schedule.specs.declared.shown.Reason.{Reason}
 use Rattle.packet_journal.specs.Deliveries.{Delivery}
 use Rattle.listener.specs.Items.{MadeItem, events_to, given_after, given_by, given_up_by, items_of, items_so_far, left_at_end, made_of_one, own_by, piece_by, unit_by, video_by}

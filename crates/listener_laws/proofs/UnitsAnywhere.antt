@@ -11,7 +11,7 @@ use Rattle.crf_format.specs.Crf.{crf_subtype}
 use Rattle.cvf_format.specs.Cvf.{Cvf, cvf_of, cvf_subtype}
 use Rattle.cvf_format.specs.declared.piece.Piece.{Piece}
 use Rattle.cvf_format.specs.declared.piece.Piece.TheVariants.{Whole, Held, Lost}
-use Rattle.cvf_format.specs.Stretches.{given_up, piece, reason}
+use Rattle.cvf_format.specs.WholeOrBroken.{given_up, piece, reason}
 use Rattle.clock_track.specs.Rows.{clock_spot}
 use Rattle.time_unfold.specs.Time.{unfolded}
 use Rattle.stream_journal.proofs.TrueTime.{true_time}

@@ -1,7 +1,7 @@
 -- The unit that a packet of H.264 completes.
 use Rattle.std.specs.Prelude.{List}
 use Rattle.cvf_format.specs.Cvf.{cvf_of}
-use Rattle.cvf_format.specs.Stretches.{whole_unit}
+use Rattle.cvf_format.specs.WholeOrBroken.{whole_unit}
 use Rattle.sample_schedule.specs.declared.item.Unit.{Unit as WholeUnit}
 use Rattle.time_unfold.specs.Time.{unfolded}
 use Rattle.packet_journal.specs.Deliveries.{Delivery}

@@ -3,7 +3,7 @@
 ghost use Rattle.std.specs.Prelude.{Any, List, None, ℕ, ℤ, false, true, [], ◌∷◌, ◌++◌, ◌≡◌, ◌<◌};
 ghost use Rattle.cvf_format.specs.Cvf.{cvf_subtype};
 ghost use Rattle.cvf_format.specs.declared.piece.Piece.TheVariants.{Whole};
-ghost use Rattle.cvf_format.specs.Stretches.{piece};
+ghost use Rattle.cvf_format.specs.WholeOrBroken.{piece};
 ghost use Rattle.sample_schedule.specs.declared.shown.Reason.TheVariants.{Repeat};
 ghost use Rattle.sample_schedule.specs.declared.shown.Shown.{Shown};
 ghost use Rattle.sample_schedule.specs.declared.shown.Shown.TheVariants.{Flag};

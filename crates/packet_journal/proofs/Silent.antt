@@ -1,47 +1,42 @@
 -- Silent packets of a sparse talker that keeps the rules.
-use Rattle.std.proofs.Common.{◌≡◌, ℕ, ◌^◌, ◌<◌, Bool, true, false, pos, ◌+ℤ◌, get_or, is_some, refl, lit<, arith}
+use Rattle.std.proofs.Common.{◌≡◌, ℕ, ◌^◌, ◌<◌, Bool, true, false, pos, ◌+ℤ◌, drop, get_or, is_some, refl, lit<, arith}
 use Rattle.avtp_base.specs.Octets.{bits, flag}
 use Rattle.avtp_base.specs.Layout.{Fits}
 use Rattle.aaf_format.specs.Aaf.{aaf_layout}
 use Rattle.crf_format.specs.Crf.{crf_layout, point_at}
 use Rattle.stream_journal.specs.Conforming.{Conforms}
 use Rattle.stream_journal.specs.Examples.{clocked, restarted}
+use Rattle.stream_journal.specs.Journal.{Journal}
 use Rattle.stream_journal.proofs.Restarted.{Each, each_below}
 use Rattle.packet_journal.specs.Packets.{IsAafPacket, IsClockPacket, IsConforming}
-use Rattle.packet_journal.specs.Examples.{clock_data, clocked_packets, silent, silent_sparse}
+use Rattle.packet_journal.specs.Examples.{clock_data, clocked_packets, silent, silent_header, silent_sparse}
 
 small : (b : Bool) → flag b < 2 ^ 1
 small true = omega arith
 small false = omega arith
 
-fits : (n : ℕ) → Fits aaf_layout (silent_sparse n)
-fits n = (
-  (lit< tt, tt),
+rest : (j : Journal) (sparse : Bool) (n : ℕ) → Fits (drop 2 aaf_layout) (record (silent_sparse n) { header = silent_header j n; sparse = sparse })
+rest j sparse n = (
+  (omega arith, tt),
   (
-    (lit< tt, (lit< tt, (small (restarted.mr n), (lit< tt, (small (is_some (restarted.stamp n)), tt))))),
+    (lit< tt, (lit< tt, tt)),
     (
-      (omega arith, tt),
+      (lit< tt, tt),
       (
-        (lit< tt, (lit< tt, tt)),
+        (omega arith, tt),
         (
           (lit< tt, tt),
           (
-            (omega arith, tt),
+            (lit< tt, (lit< tt, (lit< tt, tt))),
             (
               (lit< tt, tt),
               (
-                (lit< tt, (lit< tt, (lit< tt, tt))),
+                (lit< tt, tt),
                 (
-                  (lit< tt, tt),
+                  (lit< tt, (small sparse, (lit< tt, tt))),
                   (
                     (lit< tt, tt),
-                    (
-                      (lit< tt, (lit< tt, (lit< tt, tt))),
-                      (
-                        (lit< tt, tt),
-                        tt,
-                      ),
-                    ),
+                    tt,
                   ),
                 ),
               ),
@@ -53,6 +48,15 @@ fits n = (
   ),
 )
 
+fits : (n : ℕ) → Fits aaf_layout (silent_sparse n)
+fits n = (
+  (lit< tt, tt),
+  (
+    (lit< tt, (lit< tt, (small (restarted.mr n), (lit< tt, (small (is_some (restarted.stamp n)), tt))))),
+    rest restarted true n,
+  ),
+)
+
 -- ---- with a clock
 
 silent_fits : (n : ℕ) → Fits aaf_layout (silent n)
@@ -60,37 +64,7 @@ silent_fits n = (
   (lit< tt, tt),
   (
     (lit< tt, (lit< tt, (lit< tt, (lit< tt, (lit< tt, tt))))),
-    (
-      (omega arith, tt),
-      (
-        (lit< tt, (lit< tt, tt)),
-        (
-          (lit< tt, tt),
-          (
-            (omega arith, tt),
-            (
-              (lit< tt, tt),
-              (
-                (lit< tt, (lit< tt, (lit< tt, tt))),
-                (
-                  (lit< tt, tt),
-                  (
-                    (lit< tt, tt),
-                    (
-                      (lit< tt, (lit< tt, (lit< tt, tt))),
-                      (
-                        (lit< tt, tt),
-                        tt,
-                      ),
-                    ),
-                  ),
-                ),
-              ),
-            ),
-          ),
-        ),
-      ),
-    ),
+    rest (clocked 48000) false n,
   ),
 )
 

@@ -7,7 +7,7 @@ use Rattle.std.proofs.lemmas.List.Elements.{All-head, All-tail, All-take}
 use Rattle.time_unfold.specs.declared.line.Line.{Line}
 use Rattle.time_unfold.specs.declared.head_rule.Head.{Head}
 use Rattle.clock_track.specs.declared.pair.Pair.{Pair}
-use Rattle.clock_track.specs.Pairs.{IsJoined, Spot, event_line, nearest_event, period, pull_down, spot_by, step_den, step_num}
+use Rattle.clock_track.specs.PairLines.{IsJoined, Spot, event_line, nearest_event, period, pull_down, spot_by, step_den, step_num}
 use Rattle.clock_track.specs.Rows.{clock_spot}
 use Rattle.clock_track.proofs.LineFacts.{spaced, spaced_least, spaced_own, spaced_own_least}
 use Rattle.pcap_frames.specs.Capture.{Record}

@@ -4,7 +4,7 @@ use Rattle.std.proofs.Common.{◌≡◌, ℕ, ℤ, true, false, List, Option, So
 use Rattle.std.specs.Prelude.{option_map}
 use Rattle.std.specs.List.{filter_map}
 use Rattle.clock_track.specs.declared.clock_row.ClockRow.{ClockRow}
-use Rattle.clock_track.specs.Pairs.{Spot}
+use Rattle.clock_track.specs.PairLines.{Spot}
 use Rattle.clock_track.specs.Rows.{clock_spot}
 use Rattle.clock_track.specs.Window.{ClockState, StandsFor as StandsForRows}
 use Rattle.time_unfold.specs.declared.head_rule.Head.{Head}

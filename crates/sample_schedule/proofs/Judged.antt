@@ -18,7 +18,7 @@ use Rattle.time_unfold.specs.declared.head_rule.Head.{Head}
 use Rattle.sample_schedule.specs.Laws.{given_by, place_of, presented, shown_at, times_due, verdict_in}
 use Rattle.sample_schedule.specs.Order.{between, by_instant, put_behind}
 use Rattle.sample_schedule.specs.Schedule.{Given, Presents, Flags, accepted, accepted_by, frame_of, given, latest, now_at, prefix_of, rest_of, step, steps, verdict_at}
-use Rattle.clock_track.specs.Pairs.{Spot}
+use Rattle.clock_track.specs.PairLines.{Spot}
 use Rattle.sample_schedule.specs.Verdicts.{Clock, counted_from, decided, ok_or_reason, samples_at, spot_of, timed, verdict}
 use Rattle.sample_schedule.proofs.LawLemmas.{OkSo, accepted-presented, each-once, verdict-so}
 use Rattle.sample_schedule.proofs.StageLemmas.{verdict-at}

@@ -3,7 +3,7 @@ use Rattle.std.proofs.Common.{◌≡◌, inl, inr, ℕ, ◌+◌, ◌*◌, ◌^�
 use Rattle.std.proofs.Math.Nat.{mul-le-mul_left}
 use Rattle.std.proofs.lemmas.Int.{ints, by_lt_z}
 use Rattle.clock_track.specs.Limits.{IsClockLine}
-use Rattle.clock_track.specs.Pairs.{Spot}
+use Rattle.clock_track.specs.PairLines.{Spot}
 use Rattle.time_unfold.specs.declared.head_rule.Head.{Head}
 use Rattle.time_unfold.specs.Time.{IsInstant}
 use Rattle.time_unfold.specs.Lines.{floor_of, instant_at, nominal_line}

@@ -2,7 +2,7 @@
 use Rattle.std.specs.Prelude.{◌≡◌, ℕ, ◌+◌, ◌==◌, nat_lt, nat_le, Bool, true, false, if◌then◌else◌, ℤ, pos, ◌+ℤ◌, int_lt, List, length, sum_by, Option, Some, None, option_map, Result, Ok, Err}
 use Rattle.std.specs.List.{filter_map, list_any}
 use Rattle.clock_track.specs.declared.clock_row.ClockRow.{ClockRow}
-use Rattle.clock_track.specs.Pairs.{Spot}
+use Rattle.clock_track.specs.PairLines.{Spot}
 use Rattle.clock_track.specs.Rows.{clock_spot}
 use Rattle.time_unfold.specs.declared.head_rule.Head.{Head}
 use Rattle.time_unfold.specs.Lines.{nominal_line}

@@ -4,7 +4,7 @@ ghost use Rattle.std.specs.Prelude.{◌≡◌, ◌≤◌, ◌≤ℤ◌, ◌+◌,
 ghost use Rattle.std.specs.List.{list_any};
 ghost use mathlib.Core.List.{IsPrefix};
 ghost use Rattle.clock_track.specs.Limits.{IsClockLine};
-ghost use Rattle.clock_track.specs.Pairs.{Spot};
+ghost use Rattle.clock_track.specs.PairLines.{Spot};
 ghost use Rattle.time_unfold.specs.declared.head_rule.Head.{Head};
 ghost use Rattle.sample_schedule.specs.declared.accepted.Accepted.{Accepted};
 ghost use Rattle.sample_schedule.specs.declared.item.Packet.{Packet};

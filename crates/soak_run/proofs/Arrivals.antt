@@ -5,7 +5,7 @@ use Rattle.std.specs.Cmp.{int_cmp_total}
 use Rattle.std.specs.List.Sorted.{IsSortedByKey, IsStableByKey}
 use Rattle.std.specs.Ordering.{int_cmp, is_lt}
 use Rattle.std.proofs.lemmas.List.Sorted.{ranks_by}
-use Rattle.soak_run.specs.Soak.{by_arrival, put_in}
+use Rattle.soak_run.specs.Network.{by_arrival, put_in}
 use Rattle.soak_run.proofs.Sorting.{put, sorted, stable-is}
 
 -- one copy arrives before another

@@ -12,7 +12,7 @@ use Rattle.talker.specs.Frames.{capture_style}
 use Rattle.talk_plan.specs.Ethernet.{ethernet, packet_bytes}
 use Rattle.talker.specs.Journal.{Stream, stream_of}
 use Rattle.talk_plan.specs.Plan.{Expects}
-use Rattle.soak_run.specs.Soak.{deliveries_of, soak_plan}
+use Rattle.soak_run.specs.Network.{deliveries_of, soak_plan}
 use Rattle.talk_plan.specs.Timing.{arrival_of, nominal_instant}
 use Rattle.talk_audio.proofs.DueLemmas.{stamp_is}
 use Rattle.soak_run.proofs.SoakLemmas.{sent_soon}

@@ -6,7 +6,7 @@ use Rattle.std.proofs.lemmas.Int.{ints}
 use Rattle.std.proofs.lemmas.List.FromFn.{length-map-range_with_len}
 use Rattle.time_unfold.specs.Time.{IsArrival}
 use Rattle.soak_run.specs.Generator.{draw_after}
-use Rattle.soak_run.specs.Soak.{all_copies, by_arrival, copies, copies_by, copies_of, copy_of, delay_by, deliveries_of, draws_before, put_in, soak_plan}
+use Rattle.soak_run.specs.Network.{all_copies, by_arrival, copies, copies_by, copies_of, copy_of, delay_by, deliveries_of, draws_before, put_in, soak_plan}
 use Rattle.talk_plan.specs.Timing.{arrival_of}
 use Rattle.soak_run.proofs.SoakLemmas.{copies-more, sent_soon}
 

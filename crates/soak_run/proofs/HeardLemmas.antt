@@ -18,7 +18,7 @@ use Rattle.listener.proofs.TrueHeadline.{headline}
 use Rattle.listener.proofs.TrueItems.{deliveries_copied}
 use Rattle.listener.proofs.TrueList.{others}
 use Rattle.talker.specs.Frames.{capture_style}
-use Rattle.soak_run.specs.Soak.{deliveries_of}
+use Rattle.soak_run.specs.Network.{deliveries_of}
 use Rattle.soak_run.specs.declared.counts.SoakCounts.{SoakCounts}
 use Rattle.soak_run.specs.Captured.{captured, soak_capture, soak_listener, soak_records, soak_stream}
 use Rattle.soak_run.specs.Outcomes.{outcomes, soak_counts, soak_shown, total}

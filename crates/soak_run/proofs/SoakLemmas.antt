@@ -5,7 +5,7 @@ use Rattle.std.proofs.lemmas.List.{append-nil}
 use Rattle.std.proofs.lemmas.Grind.{flat_map-append}
 use Rattle.std.proofs.lemmas.List.FromFn.{map-range_with_len_more}
 use Rattle.soak_run.specs.Generator.{drawn, first_state, next_state, state_after}
-use Rattle.soak_run.specs.Soak.{all_copies, copies, copies_by, copies_of, copy_of, delay_by, draws_before, soak_plan}
+use Rattle.soak_run.specs.Network.{all_copies, copies, copies_by, copies_of, copy_of, delay_by, draws_before, soak_plan}
 use Rattle.talk_plan.specs.Timing.{arrival_of, nominal_instant}
 
 -- `count` copies of packet `number` were added to the deliveries `old`

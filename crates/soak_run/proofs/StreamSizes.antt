@@ -10,7 +10,7 @@ use Rattle.talk_plan.specs.declared.fault.TalkFault.{TalkFault}
 use Rattle.talk_plan.specs.declared.fault.TalkFault.TheVariants.{Memory}
 use Rattle.talker.specs.Faults.{fault_of}
 use Rattle.talker.specs.Frames.{stream_frames}
-use Rattle.soak_run.specs.Soak.{soak_plan}
+use Rattle.soak_run.specs.Network.{soak_plan}
 use Rattle.talker.specs.Journal.{stream_of}
 use Rattle.talk_plan.specs.Plan.{IsAudioPlan, most_input}
 use Rattle.talker.proofs.StreamLemmas.{count_of, packets_in}

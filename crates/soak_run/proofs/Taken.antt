@@ -6,7 +6,7 @@ use Rattle.pcap_frames.specs.Capture.{Record}
 use Rattle.listener.specs.Heard.{shown_of}
 use Rattle.talker.specs.Frames.{SentFrame, frame_of, numbered_frames}
 use Rattle.talker.specs.Journal.{Stream, stream_of}
-use Rattle.soak_run.specs.Soak.{deliveries_of, soak_plan}
+use Rattle.soak_run.specs.Network.{deliveries_of, soak_plan}
 use Rattle.talker.specs.Talking.{Talking}
 use Rattle.talker.proofs.StreamLemmas.{at_number, count_of}
 use Rattle.soak_run.specs.declared.counts.SoakCounts.{SoakCounts}

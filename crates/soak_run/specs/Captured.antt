@@ -7,7 +7,7 @@ use Rattle.pcap_frames.specs.Capture.{Record, capture_spelling}
 use Rattle.listener.specs.declared.plan.ListenPlan.{ListenPlan}
 use Rattle.talker.specs.Frames.{capture_style, frame_of, record_of}
 use Rattle.talker.specs.Journal.{Stream, stream_of}
-use Rattle.soak_run.specs.Soak.{deliveries_of, soak_plan}
+use Rattle.soak_run.specs.Network.{deliveries_of, soak_plan}
 
 -- ---- what is sent
 

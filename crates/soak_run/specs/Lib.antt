@@ -1,5 +1,5 @@
 pub mod Generator
-pub mod Soak
+pub mod Network
 pub mod Captured
 pub mod Outcomes
 pub mod state

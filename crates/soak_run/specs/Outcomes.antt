@@ -4,7 +4,7 @@ use Rattle.sample_schedule.specs.declared.shown.Reason.TheVariants.{Full, Late, 
 use Rattle.sample_schedule.specs.declared.shown.Shown.{Shown}
 use Rattle.sample_schedule.specs.declared.shown.Shown.TheVariants.{Flag}
 use Rattle.listener.specs.Heard.{is_present, shown_of}
-use Rattle.soak_run.specs.Soak.{deliveries_of}
+use Rattle.soak_run.specs.Network.{deliveries_of}
 use Rattle.soak_run.specs.declared.counts.SoakCounts.{SoakCounts}
 use Rattle.soak_run.specs.Captured.{soak_listener, soak_records}
 

@@ -3,10 +3,10 @@
 ghost use Rattle.std.specs.Prelude.{◌≡◌, ◌+◌, ◌≤◌, ◌<◌, ◌^◌, ◌++◌, ℕ, pos, suc, IfOk, OnOk};
 ghost use Rattle.soak_run.specs.Generator.{state_after};
 ghost use Rattle.talk_plan.specs.Timing.{arrival_of};
-ghost use Rattle.soak_run.specs.Soak.{all_copies, copies_by, delay_by, deliveries_of, draws_before, soak_plan};
+ghost use Rattle.soak_run.specs.Network.{all_copies, copies_by, delay_by, deliveries_of, draws_before, soak_plan};
 ghost use Rattle.soak_run.specs.state.Delivered.{HasDelivered};
 
-use crate::noise::Noise;
+use crate::generator::Noise;
 use aaf_format::AafFormat;
 use avtp_base::NoMemory;
 use std::alloc::Global;

@@ -4,13 +4,13 @@
 
 mod counts;
 mod deliveries;
+mod generator;
 mod hearing;
 pub mod laws;
-mod noise;
 mod run;
 mod samples;
 
 pub use counts::SoakCounts;
 pub use deliveries::{SOAK_PLAN, soak_deliveries};
-pub use noise::Noise;
+pub use generator::Noise;
 pub use run::soak;

@@ -5,7 +5,7 @@ ghost use Rattle.presenter_ring.specs.Pipes.{ended_with};
 ghost use Rattle.listener.specs.Heard.{heard_of, shown_of};
 ghost use Rattle.talk_plan.specs.declared.fault.TalkFault.TheVariants.{Memory};
 ghost use Rattle.talker.specs.Journal.{stream_of};
-ghost use Rattle.soak_run.specs.Soak.{deliveries_of};
+ghost use Rattle.soak_run.specs.Network.{deliveries_of};
 ghost use Rattle.soak_run.specs.Captured.{captured, soak_capture, soak_listener};
 ghost use Rattle.soak_run.specs.state.Hearing.{AreDeliverable};
 ghost use Rattle.soak_run.specs.Outcomes.{outcomes, soak_counts, total};

@@ -15,7 +15,7 @@ use Rattle.time_unfold.specs.Stamps.{same_flag}
 use Rattle.time_unfold.proofs.Floors.{neg_times, times_more}
 use Rattle.time_unfold.proofs.OnLine.{instant_at-at}
 use Rattle.clock_track.specs.declared.pair.Pair.{Pair}
-use Rattle.clock_track.specs.Pairs.{Spot, event_line, nearest_event, period, spot_by, step_den, step_num}
+use Rattle.clock_track.specs.PairLines.{Spot, event_line, nearest_event, period, spot_by, step_den, step_num}
 use Rattle.clock_track.proofs.LineFacts.{below_times, product, spaced, spaced_own}
 use Rattle.stream_journal.specs.Clocks.{Place, pair_at}
 use Rattle.stream_journal.specs.Conforming.{AgreesWithClock, Conforms, IsAudio, IsClock, IsCovered, IsOfKind}

@@ -3,7 +3,7 @@ use Rattle.std.proofs.Common.{◌≡◌, inl, inr, ◌↔◌, ℕ, zero, suc, �
 use Rattle.std.proofs.lemmas.Int.{ints}
 use Rattle.time_unfold.specs.declared.head_rule.Head.{Head}
 use Rattle.time_unfold.specs.Lines.{floor_of, instant_at}
-use Rattle.clock_track.specs.Pairs.{period, spot_by}
+use Rattle.clock_track.specs.PairLines.{period, spot_by}
 use Rattle.stream_journal.specs.Clocks.{ClockJournal, Follows, InOneRun, IsJoinedAt, IsNext, IsPlace, Place, pair_at, point}
 use Rattle.stream_journal.specs.Journal.{head_of, nominal_instant}
 use Rattle.stream_journal.specs.Conforming.{AgreesWithClock, Conforms, IsAudio, IsClock, IsCovered}

@@ -8,7 +8,7 @@ use Rattle.time_unfold.specs.Stamps.{same_flag}
 use Rattle.clock_track.specs.declared.clock_row.ClockRow.{ClockRow}
 use Rattle.clock_track.specs.declared.pair.Pair.{Pair}
 use Rattle.clock_track.specs.Adjacent.{AreTaken}
-use Rattle.clock_track.specs.Pairs.{Covers, IsJoined, Spot, spot_by}
+use Rattle.clock_track.specs.PairLines.{Covers, IsJoined, Spot, spot_by}
 use Rattle.clock_track.specs.Rows.{clock_spot, seems_next, timestamp, timestamps}
 use Rattle.clock_track.proofs.FoundPairs.{across-found_line, inside-found_line}
 use Rattle.stream_journal.specs.Clocks.{ClockJournal, IsJoinedAt, IsNext, Place, pair_at, point}

@@ -1,6 +1,6 @@
 -- Examples at the limits of the rules.
 use Rattle.std.proofs.Common.{◌≡◌, ◌⊎◌, inl, inr, ◌↔◌, ℕ, zero, suc, ◌+◌, ◌-◌, ◌*◌, ◌<◌, ◌≤◌, Some, refl, sym, ap, ◌∙◌, arith}
-use Rattle.clock_track.specs.Pairs.{period}
+use Rattle.clock_track.specs.PairLines.{period}
 use Rattle.stream_journal.specs.Clocks.{Follows, IsNext, Place, pair_at, point}
 use Rattle.stream_journal.specs.Journal.{Single}
 use Rattle.stream_journal.specs.Conforming.{AgreesWithClock, Conforms, IsCovered, IsVideo}

@@ -4,7 +4,7 @@ use Rattle.std.proofs.Common.{◌≡◌, ◌≢◌, ◌⊎◌, inl, inr, ℕ, ze
 use Rattle.std.specs.Prelude.{nat_le, if◌then◌else◌, option_map, option_and_then}
 use Rattle.std.specs.Option.{option_or}
 use Rattle.time_unfold.specs.Stamps.{same_flag}
-use Rattle.clock_track.specs.Pairs.{Covers}
+use Rattle.clock_track.specs.PairLines.{Covers}
 use Rattle.stream_journal.specs.Clocks.{Place, pair_at}
 use Rattle.time_unfold.specs.declared.head_rule.Distance.{Distance}
 use Rattle.time_unfold.specs.Heads.{distance}

@@ -3,7 +3,7 @@ use Rattle.std.proofs.Common.{◌≡◌, inl, inr, ℕ, zero, suc, ◌+◌, ◌-
 use Rattle.std.proofs.Math.Nat.{mul-le-mul_left}
 use Rattle.std.proofs.lemmas.Bool.{cases_lt, cases_eq}
 use Rattle.std.proofs.lemmas.Bool.Decides.{nat_tests}
-use Rattle.clock_track.specs.Pairs.{IsJoined, period, pull_down, pull_up}
+use Rattle.clock_track.specs.PairLines.{IsJoined, period, pull_down, pull_up}
 use Rattle.clock_track.proofs.Pairs.{period-natural}
 use Rattle.stream_journal.specs.Clocks.{ClockJournal, Follows, IsJoinedAt, IsNext, Place, SeemNext, SeemsJoined, pair_at, point}
 use Rattle.stream_journal.specs.Conforming.{IsClock}

@@ -11,7 +11,7 @@ use Rattle.time_unfold.specs.Lines.{instant_at}
 use Rattle.time_unfold.specs.Stamps.{same_flag}
 use Rattle.clock_track.specs.declared.clock_row.ClockRow.{ClockRow}
 use Rattle.clock_track.specs.declared.pair.Pair.{Pair}
-use Rattle.clock_track.specs.Pairs.{Covers, IsJoined, Spot, covers, is_joined, spot_by}
+use Rattle.clock_track.specs.PairLines.{Covers, IsJoined, Spot, covers, is_joined, spot_by}
 use Rattle.clock_track.specs.Rows.{across, clock_spot, inside, joined_by, joined_pairs, latest, pair_of, pairs_at, seems_next, timestamp, timestamps, used, window}
 use Rattle.clock_track.proofs.Lists.{all-joined, all-made, found-in, places-within}
 use Rattle.clock_track.proofs.Pairs.{covers_so, joins}

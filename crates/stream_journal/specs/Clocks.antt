@@ -2,7 +2,7 @@
 -- are adjacent in the list of all points.
 use Rattle.std.specs.Prelude.{◌≡◌, ◌⊎◌, ℕ, suc, ◌*◌, ◌%◌, ◌<◌, Bool, false, pos, List, [], length, get_or}
 use Rattle.clock_track.specs.declared.pair.Pair.{Pair}
-use Rattle.clock_track.specs.Pairs.{IsJoined, pull_down, pull_up}
+use Rattle.clock_track.specs.PairLines.{IsJoined, pull_down, pull_up}
 
 -- The packets of a clock, counted from 0, and their points. A point is a timestamp plus what the listener adds to it.
 -- All packets have one base frequency in Hz, one pull and one interval. Each change of `mr` begins a new run of the

@@ -6,7 +6,7 @@ use Rattle.time_unfold.specs.declared.head_rule.HeadRule.{HeadRule}
 use Rattle.time_unfold.specs.declared.head_rule.HeadRule.TheVariants.{Own, Eight, Blocks}
 use Rattle.time_unfold.specs.Heads.{stamped_index}
 use Rattle.time_unfold.specs.Lines.{instant_at}
-use Rattle.clock_track.specs.Pairs.{Covers, IsJoined, IsOfRate, IsSpaced, spot_by}
+use Rattle.clock_track.specs.PairLines.{Covers, IsJoined, IsOfRate, IsSpaced, spot_by}
 use Rattle.stream_journal.specs.Clocks.{ClockJournal, Follows, InOneRun, IsJoinedAt, IsPlace, Place, pair_at}
 use Rattle.stream_journal.specs.Journal.{Journal, Kind, DenseAaf, SparseAaf, Am824, H264, Part, Single, First, Last, head_of, nominal_instant, rule_of}
 

@@ -4,7 +4,7 @@ use Rattle.clock_track.specs.declared.clock_row.ClockRow.{ClockRow}
 use Rattle.clock_track.specs.Examples.{worked_row}
 use Rattle.time_unfold.specs.declared.head_rule.Distance.{Distance}
 use Rattle.time_unfold.specs.declared.stamp.Stamp.{Stamp}
-use Rattle.clock_track.specs.Pairs.{Covers}
+use Rattle.clock_track.specs.PairLines.{Covers}
 use Rattle.stream_journal.specs.ClockRows.{IsTrueRow}
 use Rattle.stream_journal.specs.Clocks.{pair_at}
 use Rattle.stream_journal.specs.Examples.{came, clocked, restarted}

@@ -10,7 +10,7 @@ use Rattle.time_unfold.specs.Heads.{distance, stamped_index}
 use Rattle.time_unfold.specs.Lines.{instant_at, nominal_line}
 use Rattle.time_unfold.specs.Stamps.{same_flag}
 use Rattle.clock_track.specs.declared.pair.Pair.{Pair}
-use Rattle.clock_track.specs.Pairs.{Covers, spot_by}
+use Rattle.clock_track.specs.PairLines.{Covers, spot_by}
 use Rattle.stream_journal.specs.Clocks.{ClockJournal, IsJoinedAt, Place, pair_at}
 
 -- what a packet of H.264 carries: a whole NAL unit, or the first, a middle or the last fragment of one (RFC 6184)

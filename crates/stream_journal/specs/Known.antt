@@ -6,7 +6,7 @@ use Rattle.time_unfold.specs.declared.head_rule.Head.{Head}
 use Rattle.time_unfold.specs.declared.stamp.Stamp.{Stamp}
 use Rattle.time_unfold.specs.Heads.{distance}
 use Rattle.time_unfold.specs.Stamps.{last_of}
-use Rattle.clock_track.specs.Pairs.{Covers}
+use Rattle.clock_track.specs.PairLines.{Covers}
 use Rattle.stream_journal.specs.Clocks.{ClockJournal, Follows, InOneRun, Place, pair_at}
 use Rattle.stream_journal.specs.Delivered.{Copy}
 use Rattle.stream_journal.specs.Found.{IsAtHand, IsExpected}

@@ -2,7 +2,7 @@
 -- rule is this project's own if no standard is named.
 use Rattle.std.specs.Prelude.{◌≡◌, ℕ, ◌+◌, ◌*◌, ◌^◌, ◌<◌, ◌≤◌, Some}
 use Rattle.clock_track.specs.declared.pair.Pair.{Pair}
-use Rattle.clock_track.specs.Pairs.{period}
+use Rattle.clock_track.specs.PairLines.{period}
 use Rattle.stream_journal.specs.Clocks.{ClockJournal, Follows, InOneRun, IsPlace, Place, pair_at, point}
 use Rattle.stream_journal.specs.Conforming.{HoldsEight}
 use Rattle.stream_journal.specs.Journal.{Journal}

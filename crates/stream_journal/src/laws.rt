@@ -6,7 +6,7 @@ ghost use Rattle.time_unfold.specs.declared.head_rule.Head.{Head};
 ghost use Rattle.time_unfold.specs.declared.stamp.Stamp.{Stamp};
 ghost use Rattle.time_unfold.specs.Lines.{instant_at};
 ghost use Rattle.clock_track.specs.declared.clock_row.ClockRow.{ClockRow};
-ghost use Rattle.clock_track.specs.Pairs.{Covers, Spot, spot_by};
+ghost use Rattle.clock_track.specs.PairLines.{Covers, Spot, spot_by};
 ghost use Rattle.clock_track.specs.Rows.{clock_spot, joined_pairs, window};
 ghost use Rattle.stream_journal.specs.ClockRows.{IsSpotAt, IsTruePair, IsTrueRow};
 ghost use Rattle.time_unfold.specs.Heads.{distance};

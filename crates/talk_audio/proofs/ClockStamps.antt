@@ -4,7 +4,7 @@ use Rattle.std.specs.Prelude.{Option, if◌then◌else◌}
 use Rattle.std.proofs.Math.Nat.{div-eq_of_lt-le, lt-div-mul-add, mul-le-mul_right}
 use Rattle.std.proofs.lemmas.Bool.{cases_lt}
 use Rattle.clock_track.specs.declared.pair.Pair.{Pair}
-use Rattle.clock_track.specs.Pairs.{Covers, IsOfRate}
+use Rattle.clock_track.specs.PairLines.{Covers, IsOfRate}
 use Rattle.stream_journal.specs.Clocks.{Place, pair_at}
 use Rattle.stream_journal.specs.Conforming.{AgreesWithClock, IsCovered, is_stamped}
 use Rattle.stream_journal.specs.Journal.{Journal, Kind, rule_of}

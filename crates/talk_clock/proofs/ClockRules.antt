@@ -3,7 +3,7 @@ use Rattle.std.proofs.Common.{◌≡◌, inl, inr, ℕ, suc, ◌+◌, ◌-◌, �
 use Rattle.std.specs.Prelude.{Option, ◌==◌}
 use Rattle.std.proofs.Math.Nat.{mul-le-mul_right, zero-div}
 use Rattle.clock_track.specs.declared.pair.Pair.{Pair}
-use Rattle.clock_track.specs.Pairs.{IsJoined, IsSpaced, nominal, period}
+use Rattle.clock_track.specs.PairLines.{IsJoined, IsSpaced, nominal, period}
 use Rattle.clock_track.proofs.Pairs.{period-natural}
 use Rattle.stream_journal.specs.Clocks.{Follows, Place, pair_at, point}
 use Rattle.stream_journal.specs.Conforming.{HoldsEight, IsClock}

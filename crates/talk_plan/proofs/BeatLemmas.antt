@@ -9,7 +9,7 @@ use Rattle.std.proofs.lemmas.Int.{ints}
 use Rattle.std.proofs.lemmas.Nat.{div-add-mod'}
 use Rattle.time_unfold.specs.Lines.{floor_of, instant_at}
 use borrow.Author.Differences.{up, down}
-use Rattle.clock_track.specs.Pairs.{Covers, IsJoined, IsOfRate, event_line, nearest_event, period, spot_by}
+use Rattle.clock_track.specs.PairLines.{Covers, IsJoined, IsOfRate, event_line, nearest_event, period, spot_by}
 use Rattle.clock_track.proofs.Pairs.{period-natural}
 use Rattle.stream_journal.specs.Regular.{IsSteady}
 use Rattle.talk_plan.specs.Beats.{Beat, IsBeat, IsNextStart, pair_from, point_at, stamped_at}

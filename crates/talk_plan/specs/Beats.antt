@@ -4,7 +4,7 @@
 -- further one after every `spacing` events.
 use Rattle.std.specs.Prelude.{◌≡◌, ℕ, suc, ◌+◌, ◌-◌, ◌*◌, ◌/◌, ◌%◌, ◌<◌, ◌≤◌, nat_lt, if◌then◌else◌, pos}
 use Rattle.clock_track.specs.declared.pair.Pair.{Pair}
-use Rattle.clock_track.specs.Pairs.{Covers, IsJoined, spot_by}
+use Rattle.clock_track.specs.PairLines.{Covers, IsJoined, spot_by}
 use Rattle.stream_journal.specs.Regular.{IsSteady}
 use Rattle.time_unfold.specs.Lines.{instant_at}
 use Rattle.talk_plan.specs.Timing.{nominal_offset}

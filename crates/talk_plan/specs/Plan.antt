@@ -3,7 +3,7 @@ use Rattle.std.specs.Prelude.{◌≡◌, ℕ, ◌+◌, ◌*◌, ◌/◌, ◌%◌
 use Rattle.std.specs.Prelude.{option_and_then, unwrap_or, ⊤}
 use Rattle.aaf_format.specs.Aaf.{frame_size}
 use Rattle.iec61883_format.specs.Iec.{block_size, syt_interval}
-use Rattle.clock_track.specs.Pairs.{pull_down, pull_up}
+use Rattle.clock_track.specs.PairLines.{pull_down, pull_up}
 use Rattle.talk_plan.specs.declared.plan.CrfPlan.{CrfPlan}
 use Rattle.talk_plan.specs.declared.plan.TalkKind.{TalkKind}
 use Rattle.talk_plan.specs.declared.plan.TalkKind.TheVariants.{Aaf, Am824, H264}

@@ -1,6 +1,6 @@
 -- The instants in a stream's timestamps, with a media clock or without one.
 use Rattle.std.specs.Prelude.{ℕ, ◌*◌, Option, Some, None}
-use Rattle.clock_track.specs.Pairs.{pull_down, pull_up}
+use Rattle.clock_track.specs.PairLines.{pull_down, pull_up}
 use Rattle.talk_plan.specs.declared.plan.CrfPlan.{CrfPlan}
 use Rattle.talk_plan.specs.declared.plan.TalkPlan.{TalkPlan}
 use Rattle.talk_plan.specs.Beats.{Beat, stamped_at}

@@ -3,7 +3,7 @@
 ghost use Rattle.std.specs.Prelude.{◌≡◌, ◌↔◌, ◌<◌, ◌≤◌, ◌+◌, ◌*◌, ◌/◌, suc, pos, ℕ, Some};
 ghost use Rattle.aaf_format.specs.Aaf.{rate_of};
 ghost use Rattle.iec61883_format.specs.Iec.{rate_of_fdf, syt_interval};
-ghost use Rattle.clock_track.specs.Pairs.{Covers, IsOfRate, period};
+ghost use Rattle.clock_track.specs.PairLines.{Covers, IsOfRate, period};
 ghost use Rattle.talk_plan.specs.Beats.{AreApart, Beat, HasSteadyPairs, IsBeat, IsNextStart, IsOnEvent, pair_from, point_at, stamped_at};
 ghost use Rattle.talk_plan.specs.Plan.{fdf_of, interval_of, rate_code};
 

@@ -2,7 +2,7 @@
 use Rattle.std.specs.Prelude.{ℕ, ◌+◌, ◌-◌, Bool, true, false, ◌&&◌, not, if◌then◌else◌, nat_abs, List, length, Option, Some, None}
 use Rattle.cvf_format.specs.declared.cvf.NalPart.{NalPart}
 use Rattle.cvf_format.specs.Cvf.{Cvf, cvf_subtype, header_size}
-use Rattle.cvf_format.specs.Stretches.{completes}
+use Rattle.cvf_format.specs.WholeOrBroken.{completes}
 use Rattle.stream_journal.specs.Journal.{Journal, H264}
 use Rattle.packet_journal.specs.Packets.{part_of, PacketJournal, H264Data}
 use Rattle.talk_plan.specs.declared.plan.TalkPlan.{TalkPlan}

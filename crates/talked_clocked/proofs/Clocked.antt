@@ -11,7 +11,7 @@ use Rattle.std.proofs.lemmas.Int.{ints}
 use Rattle.std.proofs.lemmas.List.Elements.{All-cons, All-nil, All-take}
 use Rattle.std.proofs.lemmas.List.Sums.{count_by-le-length, length-filter}
 use Rattle.avtp_base.specs.declared.refusal.Refusal.{Refusal}
-use Rattle.clock_track.specs.Pairs.{Covers, Spot}
+use Rattle.clock_track.specs.PairLines.{Covers, Spot}
 use Rattle.stream_journal.specs.Clocks.{pair_at}
 use Rattle.clock_track.specs.declared.clock_row.ClockRow.{ClockRow}
 use Rattle.clock_track.specs.Rows.{clock_spot}

@@ -9,7 +9,7 @@ use Rattle.std.proofs.lemmas.Grind.{div_ceil_times}
 use Rattle.std.proofs.lemmas.Int.{ints}
 use Rattle.std.proofs.lemmas.Nat.{div-add-mod'}
 use Rattle.clock_track.specs.declared.pair.Pair.{Pair}
-use Rattle.clock_track.specs.Pairs.{Covers, Spot, event_line, nearest_event, step_den, step_num}
+use Rattle.clock_track.specs.PairLines.{Covers, Spot, event_line, nearest_event, step_den, step_num}
 use Rattle.time_unfold.specs.declared.head_rule.Head.{Head}
 use Rattle.time_unfold.specs.Lines.{instant_at}
 use Rattle.time_unfold.specs.Stamps.{last_of}

@@ -9,7 +9,7 @@ use Rattle.std.proofs.lemmas.List.Elements.{filter-append}
 use Rattle.pcap_frames.specs.Capture.{Record}
 use Rattle.cvf_format.specs.Cvf.{cvf_of}
 use Rattle.time_unfold.specs.Time.{unfolded}
-use Rattle.cvf_format.specs.Stretches.{is_complete, is_within, last_stretch, whole_unit}
+use Rattle.cvf_format.specs.WholeOrBroken.{is_complete, is_within, last_stretch, whole_unit}
 use Rattle.stream_journal.specs.Conforming.{Begins, Ends, IsVideo}
 use Rattle.stream_journal.specs.Journal.{H264, Part}
 use Rattle.sample_schedule.specs.Schedule.{arrival_of}

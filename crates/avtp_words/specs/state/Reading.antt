@@ -13,7 +13,7 @@ use Rattle.iec61883_format.specs.Iec.{rate_of_fdf, syt_interval}
 use Rattle.std.specs.Option.{option_eq}
 use Rattle.avtp_words.specs.Limits as limits
 use Rattle.avtp_words.specs.Limits.{NumberOption, default_rate, with_default}
-use Rattle.clock_track.specs.Pairs.{pull_down}
+use Rattle.clock_track.specs.PairLines.{pull_down}
 use Rattle.option_words.specs.Lines.{StopsAt}
 use Rattle.avtp_words.specs.Grammar.{Listening, NamedFile, NamedRaw, Talking, spacing_of}
 use Rattle.aaf_format.specs.declared.aaf.AafFormat.TheVariants.{Int16}

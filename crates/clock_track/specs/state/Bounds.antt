@@ -4,7 +4,7 @@ use Rattle.std.specs.Prelude.{◌≡◌, ◌⊎◌, List, Option, Some, slice_ge
 use Rattle.clock_track.specs.declared.bounds.Bounds.{Bounds}
 use Rattle.clock_track.specs.declared.clock_row.ClockRow.{ClockRow}
 use Rattle.clock_track.specs.declared.pair.Pair.{Pair}
-use Rattle.clock_track.specs.Pairs.{period}
+use Rattle.clock_track.specs.PairLines.{period}
 use Rattle.clock_track.specs.Rows.{across, inside, timestamps}
 
 -- the pair's later point, and the end of its period, are within the bounds

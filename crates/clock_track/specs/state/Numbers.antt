@@ -1,7 +1,7 @@
 -- Only private functions and proofs use these definitions. Numbers that are computed in a few bits.
 use Rattle.std.specs.Prelude.{◌≡◌, ℕ, ◌*◌, ◌^◌, ◌≤◌, ◌<◌}
 use Rattle.clock_track.specs.declared.pair.Pair.{Pair}
-use Rattle.clock_track.specs.Pairs.{nominal}
+use Rattle.clock_track.specs.PairLines.{nominal}
 
 -- the computed number is exact, and it is below the bound
 pub record IsExact (computed exact bound : ℕ) : Type 0 where

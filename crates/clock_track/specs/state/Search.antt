@@ -5,7 +5,7 @@ use Rattle.clock_track.specs.declared.clock_row.ClockRow.{ClockRow}
 use Rattle.clock_track.specs.declared.pair.Pair.{Pair}
 use Rattle.clock_track.specs.declared.query.Query.{Query}
 use Rattle.clock_track.specs.Limits.{IsNotable, IsSmall}
-use Rattle.clock_track.specs.Pairs.{covers}
+use Rattle.clock_track.specs.PairLines.{covers}
 use Rattle.clock_track.specs.Rows.{joined_by, latest, pair_of, used, window}
 use Rattle.clock_track.specs.Search.{IsCovering, IsPair}
 

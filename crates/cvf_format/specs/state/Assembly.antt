@@ -9,7 +9,7 @@ use Rattle.cvf_format.specs.declared.piece.Lost.TheVariants.{Broken}
 use Rattle.cvf_format.specs.declared.piece.Pushed.{Pushed}
 use Rattle.cvf_format.specs.declared.piece.Piece.{Piece}
 use Rattle.cvf_format.specs.declared.piece.Piece.TheVariants as variant
-use Rattle.cvf_format.specs.Stretches.{Fragment, Event, given_up, reason, piece, goes_on, begins, completes, sequence_numbers, longest_unit, most_fragments}
+use Rattle.cvf_format.specs.WholeOrBroken.{Fragment, Event, given_up, reason, piece, goes_on, begins, completes, sequence_numbers, longest_unit, most_fragments}
 use Rattle.cvf_format.specs.Assembly.{Assembly, StandsFor}
 
 -- the last of these events is a packet, and the assembler returned `pushed` for this packet

@@ -7,7 +7,7 @@ use Rattle.cvf_format.specs.Cvf.{Cvf}
 use Rattle.cvf_format.specs.declared.piece.Lost.TheVariants.{Broken}
 use Rattle.cvf_format.specs.declared.piece.Piece.{Piece}
 use Rattle.cvf_format.specs.declared.piece.Piece.TheVariants.{Whole, Held, Lost}
-use Rattle.cvf_format.specs.Stretches.{Event, cut, packet, piece, reason, whole_unit}
+use Rattle.cvf_format.specs.WholeOrBroken.{Event, cut, packet, piece, reason, whole_unit}
 use Rattle.sample_schedule.specs.declared.item.Item.{Item}
 use Rattle.sample_schedule.specs.declared.item.Item.TheVariants.{Unit as OfUnit}
 use Rattle.sample_schedule.specs.declared.shown.Reason.{Reason}

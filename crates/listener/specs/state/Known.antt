@@ -1,7 +1,7 @@
 -- Only private functions and proofs use these definitions. What a listener's own search finds for an
 -- item.
 use Rattle.std.specs.Prelude.{Bool, true, false, List, Option, is_some, option_and_then}
-use Rattle.clock_track.specs.Pairs.{Spot}
+use Rattle.clock_track.specs.PairLines.{Spot}
 use Rattle.clock_track.specs.Rows.{clock_spot}
 use Rattle.sample_schedule.specs.declared.entry.Entry.{Entry}
 use Rattle.sample_schedule.specs.declared.entry.Entry.TheVariants.{Item as OfItem, Clock as OfClock}

@@ -1,5 +1,5 @@
 use Rattle.std.proofs.Common.{refl, arith}
-use Rattle.device_rack.specs.Output.{annexb, units}
+use Rattle.device_rack.specs.RawOutput.{annexb, units}
 use Rattle.device_rack.proofs.Carried.{units_stand}
 use Rattle.device_rack.proofs.laws.units_again.Goals as goal
 

@@ -1,6 +1,6 @@
 use Rattle.std.proofs.Common.{◌≡◌, ℕ, ◌+◌, ◌-◌, ◌*◌, ◌/◌, ◌%◌, ◌<◌, ◌≤◌, List, ◌++◌, take, ap, ◌∙◌, arith}
 use Rattle.std.proofs.Math.Nat.{div-add-mod, mul-le-mul_left}
-use Rattle.device_rack.specs.Output.{silence_of}
+use Rattle.device_rack.specs.RawOutput.{silence_of}
 use Rattle.device_rack.proofs.Silences.{piece_and_more, pieces_more, silence_front}
 use Rattle.device_rack.proofs.Writings.{HasWritten-cut, HasWritten-none, HasWritten-same, HasWritten-then}
 use Rattle.device_rack.proofs.writing.write_silence.Goals as goal

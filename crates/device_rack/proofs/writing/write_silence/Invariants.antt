@@ -1,5 +1,5 @@
 use Rattle.std.proofs.Common.{◌*◌, Ok}
-use Rattle.device_rack.specs.Output.{silence_of}
+use Rattle.device_rack.specs.RawOutput.{silence_of}
 use Rattle.device_rack.specs.state.Written.{HasWritten}
 use Rattle.device_rack.proofs.writing.write_silence.Given as goal
 

@@ -5,7 +5,7 @@ use Rattle.sample_schedule.specs.declared.item.Item.{Item}
 use Rattle.std.specs.Prelude.{◌==◌}
 use Rattle.crf_format.specs.Crf.{crf_subtype}
 use Rattle.cvf_format.specs.Assembly.{StandsFor}
-use Rattle.cvf_format.specs.Stretches.{Event}
+use Rattle.cvf_format.specs.WholeOrBroken.{Event}
 use Rattle.packet_journal.specs.Deliveries.{Delivery}
 use Rattle.listener.specs.Gathering.{Gathered, HasUnits, item_entry, left}
 use Rattle.listener.proofs.Made.{events_same}

@@ -1,7 +1,7 @@
 -- The packets are delivered one after another.
 use Rattle.std.proofs.Common.{◌≡◌, ℕ, ℤ, suc, ◌+◌, List, ◌++◌, sym, ap, ◌∙◌, arith}
 use Rattle.soak_run.specs.Generator.{first_state, state_after}
-use Rattle.soak_run.specs.Soak.{all_copies, copies, draws_before}
+use Rattle.soak_run.specs.Network.{all_copies, copies, draws_before}
 use Rattle.soak_run.proofs.SoakLemmas.{copies-more, none-drawn}
 use Rattle.soak_run.proofs.deliveries.copies_of_all.Goals as goal
 

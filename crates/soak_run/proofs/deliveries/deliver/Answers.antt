@@ -1,7 +1,7 @@
 -- A packet is delivered copy by copy.
 use Rattle.std.proofs.Common.{◌≡◌, ℕ, ℤ, pos, ◌+◌, List, [], ◌∷◌, ◌++◌, sym, ap, ◌∙◌, subst, arith, w64}
 use Rattle.std.proofs.lemmas.Int.{fits_signed_from_abs, ints, to_z-of_z}
-use Rattle.soak_run.specs.Soak.{copies_by, copies_of, delay_by, soak_plan}
+use Rattle.soak_run.specs.Network.{copies_by, copies_of, delay_by, soak_plan}
 use Rattle.talk_plan.specs.Timing.{arrival_of}
 use Rattle.soak_run.proofs.SoakLemmas.{Delivering, delivering-none, delivering-more, delivering-all, drawn-all, copied-all}
 use Rattle.soak_run.proofs.deliveries.deliver.Goals as goal

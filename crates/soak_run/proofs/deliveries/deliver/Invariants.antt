@@ -1,7 +1,7 @@
 -- `counter` copies of the packet were delivered.
 use Rattle.std.proofs.Common.{◌≡◌, ℕ}
 use Rattle.soak_run.specs.Generator.{state_after}
-use Rattle.soak_run.specs.Soak.{draws_before}
+use Rattle.soak_run.specs.Network.{draws_before}
 use Rattle.soak_run.proofs.SoakLemmas.{Delivering}
 use Rattle.soak_run.proofs.deliveries.deliver.Given as goal
 

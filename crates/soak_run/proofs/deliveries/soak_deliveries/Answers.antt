@@ -1,7 +1,7 @@
 -- The copies are sorted by arrival.
 use Rattle.std.proofs.Common.{ap, ◌∙◌, rules}
 use Rattle.std.proofs.lemmas.List.Sorted.{answers_always}
-use Rattle.soak_run.specs.Soak.{by_arrival}
+use Rattle.soak_run.specs.Network.{by_arrival}
 use Rattle.soak_run.proofs.Arrivals.{arrivals}
 use Rattle.soak_run.proofs.deliveries.soak_deliveries.Goals as goal
 

@@ -2,7 +2,7 @@
 use Rattle.std.proofs.Common.{◌≡◌, ◌*◌, ℤ, pos, ◌-ℤ◌, ◌*ℤ◌, ◌+ℤ◌, ap, ◌∙◌, arith, w64, to_z, of_z}
 use Rattle.std.proofs.lemmas.Int.{ints}
 use Rattle.std.specs.Int.{int_div_euclid, w128}
-use Rattle.clock_track.specs.Pairs.{nearest_event, period}
+use Rattle.clock_track.specs.PairLines.{nearest_event, period}
 use Rattle.clock_track.proofs.LineFacts.{IsEvent, is_event, most_period, own_spot, some_rate}
 use Rattle.clock_track.proofs.pair.Pair.answer.Goals as goal
 

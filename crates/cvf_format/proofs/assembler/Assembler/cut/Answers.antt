@@ -1,5 +1,5 @@
 use Rattle.std.proofs.Common.{◌∙◌, sym, subst, ap, length, ◌++◌, ◌∷◌, []}
-use Rattle.cvf_format.specs.Stretches.{cut}
+use Rattle.cvf_format.specs.WholeOrBroken.{cut}
 use Rattle.cvf_format.specs.Assembly.{Assembly, StandsFor}
 use Rattle.cvf_format.proofs.AssemblyLemmas.{cut_stands, cut_count}
 use Rattle.cvf_format.proofs.assembler.Assembler.cut.Goals as goal

@@ -1,5 +1,5 @@
 use Rattle.std.proofs.Common.{◌≡◌, true, false, refl}
-use Rattle.cvf_format.specs.Stretches.{begins}
+use Rattle.cvf_format.specs.WholeOrBroken.{begins}
 use Rattle.cvf_format.specs.Assembly.{fragment_of}
 use Rattle.cvf_format.specs.state.Assembly.{goes_on_here, has_room}
 use Rattle.cvf_format.proofs.AssemblyLemmas.{pushed_first, pushed_apart, pushed_long, pushed_next, pushes}

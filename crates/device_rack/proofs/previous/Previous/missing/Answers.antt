@@ -5,7 +5,7 @@ use Rattle.std.proofs.lemmas.Int.{ints}
 use Rattle.time_unfold.proofs.Floors.{times_more}
 use Rattle.time_unfold.specs.declared.line.Line.{Line}
 use Rattle.time_unfold.specs.Lines.{floor_of}
-use Rattle.device_rack.specs.Output.{at_least_0, samples_in}
+use Rattle.device_rack.specs.RawOutput.{at_least_0, samples_in}
 use Rattle.device_rack.proofs.previous.Previous.missing.Goals as goal
 
 none_below : (z : ℤ) (d : ℕ) → z <ℤ pos d → at_least_0 (floor_of z d) ≡ 0

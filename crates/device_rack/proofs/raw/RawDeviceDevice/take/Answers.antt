@@ -1,6 +1,6 @@
 use Rattle.std.proofs.Common.{◌≡◌, ◌∙◌, None, refl, sym, ap}
 use Rattle.std.specs.List.{last_or}
-use Rattle.device_rack.specs.Output.{sample_batches}
+use Rattle.device_rack.specs.RawOutput.{sample_batches}
 use Rattle.device_rack.proofs.Outputs.{samples_of_flag, samples_of_unit}
 use Rattle.device_rack.proofs.Taken.{raw_added, raw_part, raw_same}
 use Rattle.device_rack.proofs.raw.RawDeviceDevice.take.Goals as goal

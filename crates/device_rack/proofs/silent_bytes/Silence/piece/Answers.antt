@@ -1,7 +1,7 @@
 use Rattle.std.proofs.Common.{◌≡◌, ◌∙◌, length, take, ap, sym, arith, rules}
 use Rattle.std.proofs.lemmas.List.{take_all}
 use Rattle.device_rack.proofs.Silences.{silence_next}
-use Rattle.device_rack.specs.Output.{silence_of}
+use Rattle.device_rack.specs.RawOutput.{silence_of}
 use Rattle.device_rack.proofs.silent_bytes.Silence.piece.Goals as goal
 
 pub loop-j-preserved : goal.loop-j-preserved

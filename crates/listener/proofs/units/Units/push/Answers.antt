@@ -2,7 +2,7 @@ use Rattle.std.proofs.Common.{◌≡◌, ◌++◌, ◌∷◌, [], ℕ, ℤ, List
 use Rattle.cvf_format.specs.Assembly.{StandsFor, fragment_of}
 use Rattle.cvf_format.specs.Cvf.{cvf_shape}
 use Rattle.cvf_format.specs.declared.piece.Piece.{Piece}
-use Rattle.cvf_format.specs.Stretches.{Fragment, packet, piece, reason, whole_unit}
+use Rattle.cvf_format.specs.WholeOrBroken.{Fragment, packet, piece, reason, whole_unit}
 use Rattle.time_unfold.specs.Time.{unfolded}
 use Rattle.listener.specs.Gathering.{Gathered}
 use Rattle.listener.specs.state.Gathering.{Pushes, own_item}
