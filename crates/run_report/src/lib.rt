@@ -3,12 +3,14 @@
 
 mod ahead;
 mod asked;
+mod context;
 mod endings;
 mod frame;
 mod status;
 
 pub use ahead::{next_record, write_waiting};
 pub use asked::plan;
+pub use context::{Context, Machine};
 pub use endings::{print_fault, print_side, print_unopened, unmade};
 pub use frame::in_frame;
 pub use status::Status;
