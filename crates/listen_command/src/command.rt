@@ -68,7 +68,13 @@ pub fn listen<T: Threads + Sync, F: Shelf + Send, S: Sink + Send, G: Gate, D: De
         alloc: machine.alloc,
         stage: Stage::Reading,
     };
-    let presented = hear_items(machine, &mut pipe, &mut hearing, Context { shelf, text, out }, rack);
+    let presented = hear_items(
+        machine,
+        &mut pipe,
+        &mut hearing,
+        Context { shelf, text, out },
+        rack,
+    );
     let heard = hearing.heard();
     let Hearing { source, .. } = hearing;
     source.close(shelf);
