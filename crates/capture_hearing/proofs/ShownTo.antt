@@ -1,5 +1,6 @@
 -- What is shown of a capture that was heard.
-use Rattle.std.proofs.Common.{List, [], append-nil, ◌≡◌, refl, subst, ℕ, take, sym, ap, ◌∙◌, Option, ◌∷◌, length}
+use Rattle.std.proofs.Common.{List, [], append-nil, ◌≡◌, refl, subst, ℕ, take, sym, ap, ◌∙◌, Option, length, arith}
+use Rattle.std.proofs.lemmas.List.{take_all}
 use mathlib.Core.List.{IsPrefix}
 use Rattle.pcap_frames.specs.Capture.{Record}
 use Rattle.listener.specs.declared.plan.ListenPlan.{ListenPlan}
@@ -60,10 +61,6 @@ within (Ended how) limit bytes fault remains source listener items closed shown 
 within NoMemory limit bytes fault remains source listener items closed shown =
     due_within listener.plan items shown.records (records_in (take limit bytes)) (end_of limit bytes) shown.first (subst (IsPrefix items) (out_at end.Limit listener shown.records closed) shown.given)
 
-take_all : {X : Type 0} (xs : List X) → take (length xs) xs ≡ xs
-take_all {X} [] = refl
-take_all {X} (x ∷ xs) = ap (λ (l : List X). x ∷ l) (take_all xs)
-
 -- The reading of a capture ended after these records; `how` says how it ended. `items` are all items that were shown by
 -- then, and `counts` are the listener's counts.
 pub record IsAllHeard (plan : ListenPlan) (records : List Record) (how : End) (counts : Counts) (items : List Shown) : Type 0 where
@@ -76,7 +73,7 @@ all_heard plan limit bytes how fault remains source listener items is closed sho
     let all : items ≡ out listener shown.records = shown.whole how refl in
     let list : out listener shown.records ≡ shown_by plan shown.records how = out_at how listener shown.records closed ∙ ap (λ (p : ListenPlan). shown_by p shown.records how) is in
     let taken : take (length items) (out listener shown.records) ≡ shown_by plan shown.records how =
-    ap (λ (l : List Shown). take (length l) (out listener shown.records)) all ∙ take_all (out listener shown.records) ∙ list in
+    ap (λ (l : List Shown). take (length l) (out listener shown.records)) all ∙ take_all (length (out listener shown.records)) (out listener shown.records) (omega arith) ∙ list in
     record {
       items_are = all ∙ list;
       counted = shown.stands.counts ∙ ap (λ (l : List Shown). counts_of listener.plan shown.records l) taken ∙ ap (λ (p : ListenPlan). counts_of p shown.records (shown_by plan shown.records how)) is;

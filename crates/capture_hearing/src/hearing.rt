@@ -81,11 +81,10 @@ impl Hearing {
                     self.stage = Stage::Ended(end);
                     return pull_of(end);
                 }
-                _ => {
-                    if self.read_record(shelf).is_err() {
-                        return Pull::Memory;
-                    }
-                }
+                _ => match self.read_record(shelf) {
+                    Ok(()) => {}
+                    Err(NoMemory) => return Pull::Memory,
+                },
             }
         }
     }
@@ -116,22 +115,19 @@ impl Hearing {
         ensures stage { MatchResult result (λ _. (pull_at self.new.stage ≡ None) × (reads_left self.new.stage self.new.source < reads_left self.old.stage self.old.source)) (λ _. self.new.stage ≡ Stage.NoMemory) }
     {
         match self.source.next(shelf) {
-            None => {
-                if self
-                    .listener
-                    .take_record(self.alloc, &self.source.record())
-                    .is_err()
-                {
+            None => match self.listener.take_record(self.alloc, &self.source.record()) {
+                Ok(()) => Ok(()),
+                Err(NoMemory) => {
                     self.stage = Stage::NoMemory;
-                    return Err(NoMemory);
+                    Err(NoMemory)
                 }
-            }
+            },
             Some(end) => {
                 close_at(&mut self.listener, end);
                 self.stage = Stage::Showing(end);
+                Ok(())
             }
         }
-        Ok(())
     }
 
     /// The result of the hearing, once it has ended.

@@ -1,15 +1,14 @@
 //! The command `listen`: when each sample of a stream is due.
 
-ghost use Rattle.std.specs.Prelude.{◌≡◌, ◌≤◌, [], Ok, None};
+ghost use Rattle.std.specs.Prelude.{◌≡◌, [], Ok, None};
 ghost use Rattle.avtp_words.specs.Grammar.{listening_of};
 ghost use Rattle.avtp_text.specs.Listen.{capture_line};
 ghost use Rattle.avtp_text.specs.Written.{PrintsPart};
 ghost use Rattle.run_report.specs.Yield.{HandsOn};
-ghost use Rattle.listener.specs.Listening.{StandsFor};
 ghost use Rattle.presenter_ring.specs.Pipes.{ended_with, given_to, waiting_in};
 ghost use Rattle.capture_hearing.specs.Hearing.{IsAtReading};
 ghost use Rattle.listen_command.specs.Listen.{last_line, listen_report};
-ghost use Rattle.listen_command.specs.state.Listen.{HearsCapture, HearsItems};
+ghost use Rattle.listen_command.specs.state.Listen.{HearsItems};
 ghost use Rattle.run_report.specs.Outcome.{EndsWith};
 ghost use Rattle.run_report.specs.Reading.{DoesFile};
 ghost use Rattle.listen_command.specs.Listen.{IsListening};
@@ -27,88 +26,63 @@ use capture_io::{End, Source};
 use device_rack::Devices;
 use listener::{Counts, ListenPlan, RecordListener};
 use presenter_ring::{Gate, Pipe};
-use run_report::{Status, plan, print_unopened, write_waiting};
+use run_report::{Context, Machine, Status, plan, print_unopened, write_waiting};
 use std::alloc::Global;
 use std::thread::Threads;
 
 /// Prints each sample of a stream in a capture with its presentation time, or why its packet is not presented. Each
 /// line is printed as soon as it is due. One thread reads the capture and decides what is shown. Another thread writes
-/// the text of each item, and then gives the item to the devices. Memory is allocated for each packet. If memory runs
-/// out, all lines that were due by then have been printed.
+/// the text of each item, and then gives the item to the devices. Between the two threads, at most `asked.ring` items
+/// are queued. Memory is allocated for each packet. If memory runs out, all lines that were due by then have been
+/// printed.
 pub fn listen<T: Threads + Sync, F: Shelf + Send, S: Sink + Send, G: Gate, D: Devices + Send>(
-    rt: &T,
-    alloc: Global,
+    machine: &Machine<'_, T, G>,
     asked: &Listen<'_>,
     file: &str,
-    shelf: &mut F,
-    text: &mut Text,
-    out: &mut S,
-    gate: &G,
+    context: Context<'_, '_, '_, F, S>,
     rack: &mut D,
 ) -> Result<Status, Failed>
     requires { IsListening (listening_of asked.now) }
-    ensures { DoesFile (listen_report (listening_of asked.now) file.now) (HandsOn D.handed rack.old rack.new) asked.now.listener.limit file.now (F.state shelf.old) (F.state shelf.new) (S.state out.old) (S.state out.new) text.old text.new result }
+    ensures { DoesFile (listen_report (listening_of asked.now) file.now) (HandsOn D.handed rack.old rack.new) asked.now.listener.limit file.now (F.state context.entry.shelf.now) (F.state context.exit.0.now) (S.state context.entry.out.now) (S.state context.exit.1.1.0.now) context.entry.text.now context.exit.1.0.now result }
 {
-    let source = match Source::open(alloc, asked.listener.limit, shelf, file) {
+    let Context { shelf, text, out } = context;
+    let source = match Source::open(machine.alloc, asked.listener.limit, shelf, file) {
         Ok(source) => source,
         Err(fault) => return print_unopened(text, out, fault),
     };
-    let Ok(listener) = RecordListener::begin(alloc, plan(&asked.listener)) else {
+    let Ok(listener) = RecordListener::begin(machine.alloc, plan(&asked.listener)) else {
         source.close(shelf);
         return Ok(Status::Memory);
     };
+    let Ok(mut pipe) = Pipe::begin(machine.alloc, asked.ring) else {
+        source.close(shelf);
+        return Ok(Status::Memory);
+    };
+    if let Err(fault) = print_name(text, out, file) {
+        source.close(shelf);
+        return Err(fault);
+    }
     let mut hearing = Hearing {
         source,
         listener,
-        alloc,
+        alloc: machine.alloc,
         stage: Stage::Reading,
     };
-    let ring = asked.ring;
-    let heard = hear_records(
-        rt,
-        alloc,
-        ring,
-        file,
+    let presented = hear_items(
+        machine,
+        &mut pipe,
         &mut hearing,
-        shelf,
-        text,
-        out,
-        gate,
+        Context { shelf, text, out },
         rack,
     );
+    let heard = hearing.heard();
     let Hearing { source, .. } = hearing;
     source.close(shelf);
-    match heard? {
+    presented?;
+    match heard {
         Heard::Ended { end, counts } => print_last(text, out, asked.listener.limit, &counts, end),
         Heard::NoMemory => Ok(Status::Memory),
     }
-}
-
-/// Prints a capture's name and then the items that are shown of its records, each as soon as it is due. The capture is
-/// read as far as possible. At most `ring` items are queued between the two threads.
-fn hear_records<T: Threads + Sync, F: Shelf + Send, S: Sink + Send, G: Gate, D: Devices + Send>(
-    rt: &T,
-    alloc: Global,
-    ring: u32,
-    file: &str,
-    hearing: &mut Hearing,
-    shelf: &mut F,
-    text: &mut Text,
-    out: &mut S,
-    gate: &G,
-    rack: &mut D,
-) -> Result<Heard, Failed>
-    requires ring { (1 ≤ ring) × (ring ≤ 256) }
-    requires reading { IsAtReading (F.state shelf.old).slots hearing.old.source hearing.old.stage }
-    requires stands { StandsFor [] 0 hearing.old.listener }
-    ensures { HearsCapture (HandsOn D.handed rack.old rack.new) file.now hearing.old.listener (F.state shelf.old) (F.state shelf.new) hearing.old.source hearing.new.source (S.state out.old) (S.state out.new) text.old text.new result }
-{
-    let Ok(mut pipe) = Pipe::begin(alloc, ring) else {
-        return Ok(Heard::NoMemory);
-    };
-    print_name(text, out, file)?;
-    hear_items(rt, &mut pipe, hearing, shelf, text, out, gate, rack)?;
-    Ok(hearing.heard())
 }
 
 /// Prints a capture's name at once, so that it is visible before the first packet arrives.
@@ -121,19 +95,17 @@ fn print_name<S: Sink>(text: &mut Text, out: &mut S, file: &str) -> Result<(), F
 
 /// Prints the items that are shown of a capture's records, as far as the capture can be read.
 fn hear_items<T: Threads + Sync, F: Shelf + Send, S: Sink + Send, G: Gate, D: Devices + Send>(
-    rt: &T,
+    machine: &Machine<'_, T, G>,
     pipe: &mut Pipe,
     hearing: &mut Hearing,
-    shelf: &mut F,
-    text: &mut Text,
-    out: &mut S,
-    gate: &G,
+    context: Context<'_, '_, '_, F, S>,
     rack: &mut D,
 ) -> Result<(), Failed>
     requires pipe { (waiting_in pipe.old ≡ []) × (ended_with pipe.old ≡ None) × (given_to pipe.old ≡ 0) }
-    requires reading { IsAtReading (F.state shelf.old).slots hearing.old.source hearing.old.stage }
-    ensures { HearsItems (HandsOn D.handed rack.old rack.new) (F.state shelf.old) (F.state shelf.new) hearing.old.source hearing.new.source hearing.old.listener hearing.new.listener hearing.new.stage (S.state out.old) (S.state out.new) text.old text.new result }
+    requires reading { IsAtReading (F.state context.shelf.now).slots hearing.old.source hearing.old.stage }
+    ensures { HearsItems (HandsOn D.handed rack.old rack.new) (F.state context.entry.shelf.now) (F.state context.exit.0.now) hearing.old.source hearing.new.source hearing.old.listener hearing.new.listener hearing.new.stage (S.state context.entry.out.now) (S.state context.exit.1.1.0.now) context.entry.text.now context.exit.1.0.now result }
 {
+    let Context { shelf, text, out } = context;
     let mut receiver = Receiving { hearing, shelf };
     let mut presenter = Presenting {
         text,
@@ -141,16 +113,15 @@ fn hear_items<T: Threads + Sync, F: Shelf + Send, S: Sink + Send, G: Gate, D: De
         rack,
         result: Ok(()),
     };
-    hear_through(rt, pipe, &mut receiver, &mut presenter, gate)
+    hear_through(machine, pipe, &mut receiver, &mut presenter)
 }
 
 /// Runs the receiving thread and the presenting thread until everything is done.
 fn hear_through<T: Threads + Sync, F: Shelf + Send, S: Sink + Send, G: Gate, D: Devices + Send>(
-    rt: &T,
+    machine: &Machine<'_, T, G>,
     pipe: &mut Pipe,
-    receiver: &mut Receiving<'_, F>,
-    presenter: &mut Presenting<'_, S, D>,
-    gate: &G,
+    receiver: &mut Receiving<'_, '_, F>,
+    presenter: &mut Presenting<'_, '_, '_, S, D>,
 ) -> Result<(), Failed>
     requires pipe { (waiting_in pipe.old ≡ []) × (ended_with pipe.old ≡ None) × (given_to pipe.old ≡ 0) }
     requires begun { IsAtReading (F.state receiver.old.shelf.now).slots receiver.old.hearing.now.source receiver.old.hearing.now.stage × (presenter.old.result ≡ Ok tt) }
@@ -160,7 +131,7 @@ fn hear_through<T: Threads + Sync, F: Shelf + Send, S: Sink + Send, G: Gate, D: 
         receiver.old.hearing.now.source receiver.new.hearing.now.source receiver.old.hearing.now.listener receiver.new.hearing.now.listener receiver.new.hearing.now.stage
         (S.state presenter.old.out.now) (S.state presenter.new.out.now) presenter.old.text.now presenter.new.text.now result }
 {
-    present_all(rt, pipe, receiver, presenter, gate)
+    present_all(machine.rt, pipe, receiver, presenter, machine.gate)
 }
 
 /// Prints the counts of a capture, or why the capture was not read to its end.

@@ -15,15 +15,15 @@ use sample_schedule::Shown;
 /// text. Once the sink has failed, later items are neither written nor given to the devices, so the written text has no
 /// gap.
 #[derive(Drop)]
-pub struct Presenting<'a, S: Sink + Send, D: Devices + Send> {
-    pub text: &'a mut Text,
-    pub out: &'a mut S,
-    pub rack: &'a mut D,
+pub struct Presenting<'t, 's, 'd, S: Sink + Send, D: Devices + Send> {
+    pub text: &'t mut Text,
+    pub out: &'s mut S,
+    pub rack: &'d mut D,
     /// `Err` once the sink has failed.
     pub result: Result<(), Failed>,
 }
 
-impl<'a, S: Sink + Send, D: Devices + Send> Presenter for Presenting<'a, S, D> {
+impl<'t, 's, 'd, S: Sink + Send, D: Devices + Send> Presenter for Presenting<'t, 's, 'd, S, D> {
     ghost use Rattle.std.specs.Prelude.{◌≡◌, Ok};
     ghost use Rattle.listen_command.specs.state.Presenting.{failures, GivesItems};
     ghost use Rattle.run_report.specs.Yield.{HandsOn};

@@ -7,12 +7,12 @@ use presenter_ring::{Pull, Receiver};
 
 /// A capture that is heard, and the shelf where the capture is open.
 #[derive(Drop)]
-pub struct Receiving<'a, F: Shelf + Send> {
-    pub hearing: &'a mut Hearing,
-    pub shelf: &'a mut F,
+pub struct Receiving<'h, 'f, F: Shelf + Send> {
+    pub hearing: &'h mut Hearing,
+    pub shelf: &'f mut F,
 }
 
-impl<'a, F: Shelf + Send> Receiver for Receiving<'a, F> {
+impl<'h, 'f, F: Shelf + Send> Receiver for Receiving<'h, 'f, F> {
     ghost use Rattle.std.specs.Prelude.{◌≡◌};
     ghost use Rattle.capture_io.specs.Source.{slot_of};
     ghost use Rattle.capture_hearing.specs.Hearing.{Shows, ended_at, left_of};
