@@ -1,5 +1,5 @@
 -- Two captures that are read side by side, step by step.
-use Rattle.std.proofs.Common.{◌≡◌, ℕ, zero, suc, ◌+◌, List, [], ◌∷◌, ◌++◌, take, Some, ap, ◌∙◌, arith, None, refl, ◌≤◌, drop, sym, append-nil, false, true, ◌≢◌, Option, subst, Bool, Ok, Err, ◌<◌, Result, ◌^◌}
+use Rattle.std.proofs.Common.{◌≡◌, ℕ, zero, suc, ◌+◌, List, [], ◌∷◌, ◌++◌, take, Some, ap, ◌∙◌, arith, None, refl, ◌≤◌, drop, sym, append-nil, false, true, ◌≢◌, Option, subst, Bool, Ok, Err, ◌<◌, Result}
 use Rattle.std.specs.Prelude.{slice_get, is_some, IsSome, option_and_then}
 use Rattle.std.proofs.lemmas.Grind.{flat_map-append}
 use Rattle.listener_pair.specs.declared.difference.Difference.{Difference}
@@ -16,7 +16,7 @@ use Rattle.capture_io.specs.Reads.{ReadsSlot}
 use Rattle.avtp_base.specs.Files.{Open}
 use Rattle.capture_io.specs.Formats.{records_in}
 use Rattle.avtp_base.specs.Told.{Appends, Keeps}
-use Rattle.avtp_base.proofs.Told.{Appends-kept, Appends-nil}
+use Rattle.avtp_base.proofs.Told.{Appends-kept}
 use Rattle.listener_pair.specs.Differences.{differences, counts_of}
 use Rattle.capture_pair.proofs.Stays.{given-stays, all-known, fault-a, fault-b}
 use Rattle.avtp_words.specs.Grammar.{Agreeing}
@@ -32,12 +32,12 @@ use Rattle.run_report.proofs.Leaving.{ended_so, quiet_next, some_same}
 use Rattle.run_report.specs.Listener.{plan_of}
 use Rattle.run_report.specs.Outcome.{KeepsSink}
 use Rattle.agree_command.specs.Agree.{difference_line, difference_lines, merged_in, due_in, presented_in}
-use Rattle.agree_command.specs.state.Comparing.{Takes, Shuts, is_fault, IsFresh, IsSideAt, IsAmidTwo, IsBegun, IsOpenAt, StepsTo, SideRead, StandsOn, IsComparedTo, PrintsDifferences, EndsCompared, HasCompared, IsCutIn, ReadsTwo, left_by, left_of, ReadsOn, AreOpen}
+use Rattle.agree_command.specs.state.Comparing.{Takes, Shuts, is_fault, IsSideAt, IsAmidTwo, StepsTo, SideRead, StandsOn, IsComparedTo, PrintsDifferences, EndsCompared, HasCompared, IsCutIn, ReadsTwo, left_by, left_of, ReadsOn}
 use Rattle.agree_command.specs.declared.comparing.Side.{Side}
 use Rattle.agree_command.specs.declared.comparing.Comparing.{Comparing}
-use Rattle.agree_command.proofs.TwoFiles.{two_begun, two_on_a, two_on_b}
+use Rattle.agree_command.proofs.TwoFiles.{two_on_a, two_on_b}
 use Rattle.agree_command.specs.declared.comparing.Step.{Step}
-use Rattle.agree_command.specs.declared.comparing.Compared.{Compared}
+use Rattle.agree_command.specs.declared.comparing.Ended.{Ended}
 use Rattle.agree_command.specs.state.Comparing.IsCutIn.{in_a, in_b}
 use Rattle.agree_command.specs.declared.comparing.Step.TheVariants as step
 
@@ -81,9 +81,6 @@ lines_next list n d is =
 pub known_same : (old new : PairState) (records others : List Record) → KeepsPair old new → known_by new records others ≡ known_by old records others
 known_same old new records others keeps = rw (keeps.closed_a, keeps.closed_b, keeps.plan_a, keeps.plan_b) refl
 
-pub pair_still : (pair : PairState) → KeepsPair pair pair
-pair_still pair = record { plan_a = refl; plan_b = refl; frames_a = refl; frames_b = refl; closed_a = refl; closed_b = refl }
-
 pub pair_then : (a b c : PairState) → KeepsPair a b → KeepsPair b c → KeepsPair a c
 pair_then a b c p q = record {
   plan_a = q.plan_a ∙ p.plan_a;
@@ -111,20 +108,7 @@ no_fault (end.Refused r) is = λ e. cc
 no_fault end.ReadFault is = absurd cc
 no_fault end.Limit is = λ e. cc
 
-pub that_fault : (how : End) → is_fault how ≡ true → how ≡ end.ReadFault
-that_fault end.Whole is = absurd cc
-that_fault (end.Refused r) is = absurd cc
-that_fault end.ReadFault is = refl
-that_fault end.Limit is = absurd cc
-
 -- ---- the state of each side
-
-pub side_begun : (side : Side) (listener : ListenState) → IsFresh side listener → IsSideAt side listener
-side_begun side listener fresh = record {
-  going = λ unended. (fresh.going, omega (arith, fresh.bounded, fresh.none));
-  closed = fresh.listens ∙ ap is_some (sym fresh.unended);
-  no_fault = λ fault. absurd (let e : None ≡ Some end.ReadFault = sym fresh.unended ∙ fault in cc);
-}
 
 -- if a listener only gave out items, the state of its side is unchanged
 pub side_still : (side : Side) (old new : ListenState) → new.counts.frames ≡ old.counts.frames → is_closed new ≡ is_closed old → IsSideAt side old → IsSideAt side new
@@ -132,18 +116,6 @@ side_still side old new frames closed at = record {
   going = λ unended. let g = at.going unended in (g.0, omega (arith, g.1, frames));
   closed = closed ∙ at.closed;
   no_fault = at.no_fault;
-}
-
-pub amid_two : (s : ShelfState) (c : Comparing) → IsOpenAt s c → IsBegun c → IsAmidTwo s s c c
-amid_two s c live begun = record {
-  reads = two_begun s (slot_of c.a.source) (slot_of c.b.source) live;
-  slot_a = refl;
-  slot_b = refl;
-  quiet = refl;
-  a = side_begun c.a c.pair.a begun.a;
-  b = side_begun c.b c.pair.b begun.b;
-  plan_a = refl;
-  plan_b = refl;
 }
 
 -- printing differences does not change how far the captures were read
@@ -416,17 +388,6 @@ pub record IsAllTo (asked : Agreeing) (x y : List ℕ) (shelf : ShelfState) (c :
   pub to : IsComparedTo asked x y shelf c before now
   pub all : take to.given (differences (known_by c.pair to.records_a to.records_b)) ≡ differences (known_by c.pair to.records_a to.records_b)
 
-pub told_begun : (asked : Agreeing) (x y : List ℕ) (s : ShelfState) (c : Comparing) (before : Option (List ℕ)) → IsBegun c → HasGivenOf asked.listener.limit x s c.a.source [] → HasGivenOf asked.listener.limit y s c.b.source [] → IsComparedTo asked x y s c before before
-told_begun asked x y s c before begun given_a given_b = record {
-  records_a = [];
-  records_b = [];
-  given = 0;
-  a = subst (λ (e : Option End). SideRead asked.listener.limit x s c.a.source e []) (sym begun.a.unended) given_a;
-  b = subst (λ (e : Option End). SideRead asked.listener.limit y s c.b.source e []) (sym begun.b.unended) given_b;
-  stands = begun.stands;
-  printed = Appends-nil before;
-}
-
 pub told_printed : {s : ShelfState} {a b : Side} {pair pair' : PairState} {h h' : SinkState} {w w' : List ℕ} {ok : Unit} {asked : Agreeing} {x y : List ℕ} {before : Option (List ℕ)} → PrintsDifferences pair pair' h h' w w' (Ok ok)
     → IsComparedTo asked x y s (record { a = a; b = b; pair = pair }) before (written h.held w) → IsAllTo asked x y s (record { a = a; b = b; pair = pair' }) before (written h'.held w')
 told_printed {pair = pair} {pair'} {h' = h'} {w' = w'} {before = before} prints was =
@@ -468,19 +429,19 @@ told_part {s} {c} {asked} {x} {y} {before} {now} at_a at_b plans ends was =
 pub part_kept : {before mid now : Option (List ℕ)} {text : List ℕ} → AppendsPrefix before mid text → Keeps mid now → AppendsPrefix before now text
 part_kept {before} {mid} {now} {text} p keeps = record { prefix = p.prefix; rest = p.rest; split = p.split; appends = Appends-kept before mid now p.prefix p.appends keeps }
 
-pub told_ended : {s : ShelfState} {c : Comparing} {asked : Agreeing} {x y : List ℕ} {before now : Option (List ℕ)} {result : Compared} → IsSideAt c.a c.pair.a → IsSideAt c.b c.pair.b → HavePlan (plan_of asked.listener) c.pair
-    → IsAllTo asked x y s c before now → (e : EndsCompared c result) → HasCompared asked x y e.a e.b e.counts before now
-told_ended {s} {c} {asked} {x} {y} {before} {now} at_a at_b plans told e =
+pub told_ended : {s : ShelfState} {c : Comparing} {asked : Agreeing} {x y : List ℕ} {before now : Option (List ℕ)} {ended : Ended} → IsSideAt c.a c.pair.a → IsSideAt c.b c.pair.b → HavePlan (plan_of asked.listener) c.pair
+    → IsAllTo asked x y s c before now → EndsCompared c ended → HasCompared asked x y ended before now
+told_ended {s} {c} {asked} {x} {y} {before} {now} at_a at_b plans told ends =
     let to = told.to in
     let limit = asked.listener.limit in
-    let a = subst (λ (o : Option End). SideRead limit x s c.a.source o to.records_a) e.is_a to.a in
-    let b = subst (λ (o : Option End). SideRead limit y s c.b.source o to.records_b) e.is_b to.b in
+    let a = subst (λ (o : Option End). SideRead limit x s c.a.source o to.records_a) ends.a to.a in
+    let b = subst (λ (o : Option End). SideRead limit y s c.b.source o to.records_b) ends.b to.b in
     let known : known_by c.pair to.records_a to.records_b ≡ merged_in asked x y =
-    all-known (plan_of asked.listener) to.records_a to.records_b c.pair plans (at_a.closed ∙ ap is_some e.is_a) (at_b.closed ∙ ap is_some e.is_b) ∙ rw (a.1, b.1) refl in
+    all-known (plan_of asked.listener) to.records_a to.records_b c.pair plans (at_a.closed ∙ ap is_some ends.a) (at_b.closed ∙ ap is_some ends.b) ∙ rw (a.1, b.1) refl in
     record {
-      end_a = a.0;
-      end_b = b.0;
-      counted = e.counted to.records_a to.records_b to.given to.stands ∙ ap counts_of known;
+      a = a.0;
+      b = b.0;
+      counts = ends.counts to.records_a to.records_b to.given to.stands ∙ ap counts_of known;
       lines = subst (λ (l : List Difference). Appends before now (difference_lines l)) (told.all ∙ ap differences known) to.printed;
     }
 
@@ -685,11 +646,3 @@ module _ {s t : ShelfState} {first c : Comparing} (amid : IsAmidTwo s t first c)
 pub kept_on : {t u : ShelfState} {c c' : Comparing} {h h' : SinkState} {w w' : List ℕ} {result : Result Step Failed} (which : Which) → ReadsOn which t u c c' h h' w w' result → Keeps (written h.held w) (written h'.held w') × KeepsSink h h' result
 kept_on A on = let r = on.in_a refl in (r.0.kept, r.0.sink)
 kept_on B on = let r = on.in_b refl in (r.0.kept, r.0.sink)
-
--- If the listener of a side is not closed, this listener has taken fewer than 2^61 records and can take another.
-pub few_on : {s t : ShelfState} {first c : Comparing} (which : Which) → IsAmidTwo s t first c → is_closed (listener_of which c.pair) ≡ false → (listener_of which c.pair).counts.frames < 2 ^ 61
-few_on {c = c} A amid listens = let going = amid.a.going (open_by c.a c.pair.a amid.a listens) in omega (arith, going.1)
-few_on {c = c} B amid listens = let going = amid.b.going (open_by c.b c.pair.b amid.b listens) in omega (arith, going.1)
-
-pub live_on : {s t : ShelfState} {first c : Comparing} → IsAmidTwo s t first c → IsOpenAt t c
-live_on {t = t} {first} {c} amid = subst (λ (k : ℕ). AreOpen t k (slot_of c.b.source)) (sym amid.slot_a) (subst (AreOpen t (slot_of first.a.source)) (sym amid.slot_b) amid.reads.live)
