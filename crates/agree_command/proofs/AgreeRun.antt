@@ -210,14 +210,14 @@ agree_unopened {s} {t} {result = result} asked fault (second there only refuses)
 module _ {s t u v : ShelfState} {c c' : Comparing} {h mid : SinkState} {w m : List ℕ} {compared : Result Compared Failed} (asked : Agreeing) (opened : OpensTwo s t asked (Ok c))
     (compares : Compares t u c c' h mid w m compared) (closes : ClosesTwo u v (slot_of c'.a.source) (slot_of c'.b.source)) where
   both_read : OnlyReads s v (asked.a ∷ asked.b ∷ [])
-  both_read = both_closed opened.opened compares.reads (subst (λ (k : ℕ). ClosesTwo u v k (slot_of c.b.source)) compares.slot_a (subst (ClosesTwo u v (slot_of c'.a.source)) compares.slot_b closes))
+  both_read = both_closed opened.opened compares.reads.two (subst (λ (k : ℕ). ClosesTwo u v k (slot_of c.b.source)) compares.reads.slot_a (subst (ClosesTwo u v (slot_of c'.a.source)) compares.reads.slot_b closes))
 
   rose_over : Rose t.reading_faults u.reading_faults → Rose s.reading_faults v.reading_faults
   rose_over rose = subst (λ (n : ℕ). Rose n v.reading_faults) opened.opened.reading (subst (Rose t.reading_faults) (sym closes.reading) rose)
 
   told_over : (all : Files) → s.files ≡ Some all → IsSome v.files → (at : AreTold asked all t c) × ComparesTo asked at.bytes_a at.bytes_b (Rose t.reading_faults u.reading_faults) (written h.held w) (written mid.held m) compared
   told_over all told still =
-      let at = opened.told all told (shown_before t.files v.files (KeepsFiles-trans t.files u.files v.files compares.reads.files closes.files) still) in
+      let at = opened.told all told (shown_before t.files v.files (KeepsFiles-trans t.files u.files v.files compares.reads.two.files closes.files) still) in
       (at, compares.told asked at.bytes_a at.bytes_b at.unread)
 
   does_over : {h' : SinkState} {w' : List ℕ} {result : Result Status Failed}

@@ -5,7 +5,7 @@ use Rattle.avtp_base.specs.States.{ShelfState, AsksNothing, Asks, SinkState}
 use Rattle.capture_io.specs.Source.{slot_of, to_do, HasGivenOf, Sourcing, GivesNext, held_in}
 use Rattle.avtp_base.specs.Files.{KeepsFiles, Files, IsMissing}
 use Rattle.listener.specs.Listening.{ListenState, is_closed}
-use Rattle.capture_pair.specs.Pairing.{StandsFor, HavePlan, PairState, EndsAreClosed, IsThrough, Keeps as KeepsPair, known_by, Changes}
+use Rattle.capture_pair.specs.Pairing.{StandsFor, HavePlan, PairState, EndsAreClosed, IsThrough, Keeps as KeepsPair, known_by, other_of, Changes}
 use Rattle.avtp_base.specs.declared.failed.OpenFault.{OpenFault}
 use Rattle.avtp_base.specs.Faults.{IsOpenCounted, Rose}
 use Rattle.capture_io.specs.Reads.{OnlyReads}
@@ -198,10 +198,15 @@ pub record ReadsSide (which : Which) (shelf shelf' : ShelfState) (side side' : S
   pub kept : Keeps (written out.held waits) (written out'.held waits')
   pub sink : KeepsSink out out' result
 
+-- the capture `which`
+abbrev pub side_of : Which → Comparing → Side
+side_of A c = c.a
+side_of B c = c.b
+
 -- One step of reading the capture `which` was done. The other capture is unchanged.
 pub record ReadsOn (which : Which) (shelf shelf' : ShelfState) (c c' : Comparing) (out out' : SinkState) (waits waits' : List ℕ) (result : Result Step Failed) : Type 0 where
-  pub in_a : which ≡ A → ReadsSide A shelf shelf' c.a c'.a c.pair c'.pair out out' waits waits' result × (c'.b ≡ c.b)
-  pub in_b : which ≡ B → ReadsSide B shelf shelf' c.b c'.b c.pair c'.pair out out' waits waits' result × (c'.a ≡ c.a)
+  pub here : ReadsSide which shelf shelf' (side_of which c) (side_of which c') c.pair c'.pair out out' waits waits' result
+  pub other : side_of (other_of which) c' ≡ side_of (other_of which) c
 
 -- ---- two captures, as far as they were compared
 
@@ -220,11 +225,15 @@ left_by side (Some how) = 0
 abbrev pub left_of : Side → ℕ
 left_of side = left_by side side.end
 
--- Two captures were read further, and no read fault was counted.
-pub record IsAmidTwo (shelf shelf' : ShelfState) (old new : Comparing) : Type 0 where
-  pub reads : ReadsTwo shelf shelf' (slot_of old.a.source) (slot_of old.b.source)
+-- Two captures were read further, each in the slot where it was opened.
+pub record ReadsBoth (shelf shelf' : ShelfState) (old new : Comparing) : Type 0 where
+  pub two : ReadsTwo shelf shelf' (slot_of old.a.source) (slot_of old.b.source)
   pub slot_a : slot_of new.a.source ≡ slot_of old.a.source
   pub slot_b : slot_of new.b.source ≡ slot_of old.b.source
+
+-- Two captures were read further, and no read fault was counted.
+pub record IsAmidTwo (shelf shelf' : ShelfState) (old new : Comparing) : Type 0 where
+  pub reads : ReadsBoth shelf shelf' old new
   pub quiet : shelf'.reading_faults ≡ shelf.reading_faults
   pub a : IsSideAt new.a new.pair.a
   pub b : IsSideAt new.b new.pair.b
@@ -287,8 +296,6 @@ pub record EndsCompared (c : Comparing) (ended : Ended) : Type 0 where
 -- Two captures were compared, as far as they could be read, and their differences were printed.
 pub record Compares (shelf shelf' : ShelfState) (old new : Comparing) (out out' : SinkState) (waits waits' : List ℕ) (result : Result Compared Failed) : Type 0 where
   pub told : (asked : Agreeing) (x y : List ℕ) → AreUnread asked x y shelf old → ComparesTo asked x y (Rose shelf.reading_faults shelf'.reading_faults) (written out.held waits) (written out'.held waits') result
-  pub reads : ReadsTwo shelf shelf' (slot_of old.a.source) (slot_of old.b.source)
-  pub slot_a : slot_of new.a.source ≡ slot_of old.a.source
-  pub slot_b : slot_of new.b.source ≡ slot_of old.b.source
+  pub reads : ReadsBoth shelf shelf' old new
   pub counted : CountsCompared result shelf.reading_faults shelf'.reading_faults
   pub sink : KeepsSink out out' result

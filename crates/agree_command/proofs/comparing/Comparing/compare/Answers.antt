@@ -3,7 +3,7 @@ use Rattle.capture_io.specs.declared.end.End.{End}
 use Rattle.run_report.proofs.Leaving.{on_err}
 use Rattle.run_report.proofs.Outcomes.{sink_err, sink_then, sink_ok}
 use Rattle.agree_command.specs.state.Comparing.{Compares}
-use Rattle.agree_command.proofs.SideBySide.{amid_printed, plans_of, told_failed, told_ended, told_printed, cut_on, kept_on, part_kept, told_part, less_on, amid_on, told_on, fault_on, told_fault, memory_on}
+use Rattle.agree_command.proofs.SideBySide.{amid_printed, plans_of, told_failed, told_ended, told_printed, cut_on, part_kept, told_part, less_on, amid_on, told_on, fault_on, told_fault, memory_on}
 use Rattle.agree_command.proofs.comparing.Comparing.compare.Goals as goal
 
 pub returns-in_err-print_differences : goal.returns-in_err-print_differences
@@ -15,8 +15,6 @@ returns-in_err-print_differences g c =
     (g.S.Sink.state c.args.context.out.now) (g.S.Sink.state c.print_differences.new.out) c.args.context.text.now c.print_differences.new.text) c.from_residual.result c.from_residual.ensures.0 (λ e. record {
       told = λ asked x y unread. told_failed prints now.a now.b (plans_of now unread.plans) (before.told asked x y unread);
       reads = now.reads;
-      slot_a = now.slot_a;
-      slot_b = now.slot_b;
       counted = now.quiet;
       sink = sink_err (sink_then before.sink prints.sink);
     })
@@ -30,8 +28,6 @@ returns-in_default g c =
     record {
       told = λ asked x y unread. told_ended now.a now.b (plans_of now unread.plans) (told_printed prints (before.told asked x y unread)) ends;
       reads = now.reads;
-      slot_a = now.slot_a;
-      slot_b = now.slot_b;
       counted = (λ is. now.a.no_fault (ends.a ∙ ap (λ (h : End). Some h) is), λ is. now.b.no_fault (ends.b ∙ ap (λ (h : End). Some h) is), now.quiet);
       sink = sink_ok _ (sink_then before.sink prints.sink);
     }
@@ -43,15 +39,12 @@ returns-in_err-read_on g c =
     let now = amid_printed prints.keeps before.amid in
     let reads = c.in_err-read_on.ensures in
     let cut = cut_on now c.in-Some.which reads in
-    let kept = kept_on c.in-Some.which reads in
     on_err (Compares (g.F.Shelf.state c.args.context.shelf.now) (g.F.Shelf.state c.read_on.new.context.0) c.args.self.now c.read_on.new.self (g.S.Sink.state c.args.context.out.now) (g.S.Sink.state c.read_on.new.context.1.1.0) c.args.context.text.now c.read_on.new.context.1.0)
     c.from_residual-in_err-read_on.result c.from_residual-in_err-read_on.ensures.0 (λ e. record {
-      told = λ asked x y unread. part_kept (told_part now.a now.b (plans_of now unread.plans) prints.ends (told_printed prints (before.told asked x y unread)).to) kept.0;
-      reads = cut.0.reads;
-      slot_a = cut.0.slot_a;
-      slot_b = cut.0.slot_b;
+      told = λ asked x y unread. part_kept (told_part now.a now.b (plans_of now unread.plans) prints.ends (told_printed prints (before.told asked x y unread)).to) reads.here.kept;
+      reads = cut.0;
       counted = cut.1;
-      sink = sink_err (sink_then before.sink (sink_then prints.sink kept.1));
+      sink = sink_err (sink_then before.sink (sink_then prints.sink reads.here.sink));
     })
 
 pub loop-self-smaller : goal.loop-self-smaller
@@ -68,7 +61,7 @@ loop-self-preserved g c =
     let listens = c.in-Some.ensures.open c.in-Some.which refl in
     record {
       amid = amid_on now c.in-Some.which c.in_ok-read_on.field-0 listens c.in_default-2.not-Fault c.in_default-2.not-NoMemory reads;
-      sink = sink_ok tt (sink_then before.sink (sink_then prints.sink (kept_on c.in-Some.which reads).1));
+      sink = sink_ok tt (sink_then before.sink (sink_then prints.sink reads.here.sink));
       told = λ asked x y unread. told_on now c.in-Some.which c.in_ok-read_on.field-0 listens prints.ends c.in_default-2.not-Fault c.in_default-2.not-NoMemory reads (told_printed prints (before.told asked x y unread)).to;
     }
 
@@ -82,11 +75,9 @@ returns-in-Fault g c =
     let over = fault_on now c.in-Some.which listens reads in
     record {
       told = λ asked x y unread. told_fault now c.in-Some.which (sym c.in-Some.ensures.wanted) listens prints.ends (plans_of now unread.plans) reads (told_printed prints (before.told asked x y unread));
-      reads = over.0.reads;
-      slot_a = over.0.slot_a;
-      slot_b = over.0.slot_b;
+      reads = over.0;
       counted = over.1;
-      sink = sink_ok _ (sink_then before.sink (sink_then prints.sink (kept_on c.in-Some.which reads).1));
+      sink = sink_ok _ (sink_then before.sink (sink_then prints.sink reads.here.sink));
     }
 
 pub returns-in-NoMemory : goal.returns-in-NoMemory
@@ -97,12 +88,9 @@ returns-in-NoMemory g c =
     let reads = rw c.in-NoMemory.is at c.in_ok-read_on.ensures in
     let listens = c.in-Some.ensures.open c.in-Some.which refl in
     let over = memory_on now c.in-Some.which listens reads in
-    let kept = kept_on c.in-Some.which reads in
     record {
-      told = λ asked x y unread. part_kept (told_part now.a now.b (plans_of now unread.plans) prints.ends (told_printed prints (before.told asked x y unread)).to) kept.0;
-      reads = over.0.reads;
-      slot_a = over.0.slot_a;
-      slot_b = over.0.slot_b;
+      told = λ asked x y unread. part_kept (told_part now.a now.b (plans_of now unread.plans) prints.ends (told_printed prints (before.told asked x y unread)).to) reads.here.kept;
+      reads = over.0;
       counted = over.1;
-      sink = sink_ok _ (sink_then before.sink (sink_then prints.sink kept.1));
+      sink = sink_ok _ (sink_then before.sink (sink_then prints.sink reads.here.sink));
     }
