@@ -1,7 +1,9 @@
 -- Two captures that are read side by side, step by step.
-use Rattle.std.proofs.Common.{◌≡◌, ℕ, zero, suc, ◌+◌, List, [], ◌∷◌, ◌++◌, take, Some, ap, ◌∙◌, arith, None, refl, ◌≤◌, drop, sym, append-nil, false, true, ◌≢◌, Option, subst, Bool, Ok, Err, ◌<◌}
+use Rattle.std.proofs.Common.{◌≡◌, ℕ, ◌+◌, List, [], ◌∷◌, ◌++◌, take, Some, ap, ◌∙◌, arith, None, refl, ◌≤◌, drop, sym, append-nil, false, true, ◌≢◌, Option, subst, Bool, Ok, Err, ◌<◌}
 use Rattle.std.specs.Prelude.{slice_get, is_some, IsSome, option_and_then}
 use Rattle.std.proofs.lemmas.Grind.{flat_map-append}
+use Rattle.std.proofs.lemmas.List.{take-append-drop, take-take}
+use Rattle.std.proofs.lemmas.Option.{get_or_from_slice_get, slice_get_within}
 use Rattle.listener_pair.specs.declared.difference.Difference.{Difference}
 use Rattle.pcap_frames.specs.Capture.{Record}
 use Rattle.capture_pair.specs.Pairing.{Keeps as KeepsPair, PairState, known_by, Changes, StandsFor, listener_of, other_of, Continues, EndsAreClosed, HavePlan, wanted_by}
@@ -23,6 +25,7 @@ use Rattle.avtp_words.specs.Grammar.{Agreeing}
 use Rattle.capture_io.proofs.Giving.{given_first}
 use Rattle.listener_pair.specs.Merged.{Sided, merged, known as is_known}
 use Rattle.avtp_text.specs.Written.{AppendsPrefix, written}
+use Rattle.avtp_text.proofs.Samples.{one_shown}
 use Rattle.avtp_base.specs.declared.failed.Failed.{Failed}
 use Rattle.avtp_base.specs.Faults.{Rose}
 use Rattle.capture_io.proofs.Ending.{ends_weaker}
@@ -40,40 +43,10 @@ use Rattle.agree_command.specs.declared.comparing.Ended.{Ended}
 use Rattle.agree_command.specs.state.Comparing.IsCutIn.{in_a, in_b}
 use Rattle.agree_command.specs.declared.comparing.Step.TheVariants as step
 
--- ---- lists
-
-pub take_next : {X : Type 0} (xs : List X) (n : ℕ) (x : X) → slice_get xs n ≡ Some x → take (n + 1) xs ≡ take n xs ++ x ∷ []
-take_next [] n x is = absurd cc
-take_next (y ∷ ys) zero x is = cc
-take_next (y ∷ ys) (suc n) x is =
-    let more : suc n + 1 ≡ suc (n + 1) = omega arith in
-    ap (λ (k : ℕ). take k (y ∷ ys)) more ∙ ap (λ (l : List _). y ∷ l) (take_next ys n x is)
-
-pub take_past : {X : Type 0} (xs : List X) (n : ℕ) → slice_get xs n ≡ None → take n xs ≡ xs
-take_past [] zero none = refl
-take_past [] (suc n) none = refl
-take_past (y ∷ ys) zero none = absurd cc
-take_past (y ∷ ys) (suc n) none = ap (λ (l : List _). y ∷ l) (take_past ys n none)
-
-take_shorter : {X : Type 0} (xs : List X) (n m : ℕ) → n ≤ m → take n (take m xs) ≡ take n xs
-take_shorter [] zero m less = refl
-take_shorter [] (suc n) zero less = refl
-take_shorter [] (suc n) (suc m) less = refl
-take_shorter (x ∷ xs) zero m less = refl
-take_shorter (x ∷ xs) (suc n) zero less = absurd (omega arith)
-take_shorter (x ∷ xs) (suc n) (suc m) less = ap (λ (l : List _). x ∷ l) (take_shorter xs n m (omega arith))
-
-take_drop : {X : Type 0} (n : ℕ) (xs : List X) → take n xs ++ drop n xs ≡ xs
-take_drop zero xs = refl
-take_drop (suc n) [] = refl
-take_drop (suc n) (x ∷ xs) = ap (λ (l : List _). x ∷ l) (take_drop n xs)
-
-take_less : {X : Type 0} (xs ys : List X) (n m : ℕ) → n ≤ m → take m xs ≡ take m ys → take n xs ≡ take n ys
-take_less xs ys n m less same = sym (take_shorter xs n m less) ∙ ap (take n) same ∙ take_shorter ys n m less
-
 pub lines_next : (list : List Difference) (n : ℕ) (d : Difference) → slice_get list n ≡ Some d → difference_lines (take (n + 1) list) ≡ difference_lines (take n list) ++ difference_line d
 lines_next list n d is =
-    ap difference_lines (take_next list n d is) ∙ flat_map-append difference_line (take n list) (d ∷ []) ∙ ap (λ (t : List ℕ). difference_lines (take n list) ++ t) (append-nil (difference_line d))
+    one_shown difference_line list n d (slice_get_within list n d is)
+    ∙ ap (λ (x : Difference). difference_lines (take n list) ++ difference_line x) (get_or_from_slice_get list n d d is)
 
 -- ---- a pair that gave a difference
 
@@ -290,13 +263,13 @@ first_of_all s c asked x y records others n given less at_a at_b plans ends read
     let merged : known_by shut (records ++ a.more) (others ++ b.more) ≡ merged_in asked x y = known ∙ rw (a.all, b.all) refl in
     let stays = given-stays records others a.more b.more given c.pair shut stands ends go in
     let same : take given (differences (known_by c.pair records others)) ≡ take given (differences (merged_in asked x y)) = sym stays ∙ ap (λ (l : List Sided). take given (differences l)) merged in
-    take_less (differences (known_by c.pair records others)) (differences (merged_in asked x y)) n given less same
+    sym (take-take n given (differences (known_by c.pair records others)) less) ∙ ap (take n) same ∙ take-take n given (differences (merged_in asked x y)) less
 
 pub prefix_of_all : (list : List Difference) (n : ℕ) (before now : Option (List ℕ)) → Appends before now (difference_lines (take n list)) → AppendsPrefix before now (difference_lines list)
 prefix_of_all list n before now appends = record {
   prefix = difference_lines (take n list);
   rest = difference_lines (drop n list);
-  split = ap difference_lines (sym (take_drop n list)) ∙ flat_map-append difference_line (take n list) (drop n list);
+  split = ap difference_lines (sym (take-append-drop n list)) ∙ flat_map-append difference_line (take n list) (drop n list);
   appends = appends;
 }
 
