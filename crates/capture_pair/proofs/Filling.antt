@@ -19,6 +19,7 @@ use Rattle.capture_pair.specs.Pairing.{Matches, Pairs}
 use Rattle.capture_pair.specs.state.Sides.{Filled, Fills, Holds, IsBounded, IsHeard, IsSettled, open_sides, wants_side}
 use Rattle.capture_pair.proofs.Joined.{GoesOn, IsAsked, idle-ended, known-idle, some-all}
 use Rattle.capture_pair.proofs.Handing.{presented-split}
+use Rattle.avtp_base.proofs.Results.{not_some}
 
 -- ---- A's side is filled, and then B's
 
@@ -189,16 +190,12 @@ pairs-zero ShowsA ShowsB list other given m p = subst (λ (g : ℕ). Pairs Shows
 
 -- ---- what is returned
 
-not-some : {T : Type 0} (o : Option T) → is_some o ≡ false → o ≡ None
-not-some None e = refl
-not-some (Some x) e = absurd (cc)
-
 some-one : {T : Type 0} (o : Option T) → is_some o ≡ true → length (option_to_list o) ≡ 1
 some-one None e = absurd (cc)
 some-one (Some x) e = refl
 
 pub none-of : (d : Option Difference) → is_some d ≡ false → d ≡ None
-none-of d e = not-some d e
+none-of d e = not_some d e
 
 pub pairs-none : (ShowsA ShowsB : List Shown → ℕ → Type 0) (list other : List Shown) (given : ℕ) (m : MatchingState) (d : Option Difference) → d ≡ None → Pairs ShowsA ShowsB list other (given + length (option_to_list d)) m → Pairs ShowsA ShowsB list other given m
 pairs-none ShowsA ShowsB list other given m d e p = pairs-zero ShowsA ShowsB list other given m (subst (λ (o : Option Difference). Pairs ShowsA ShowsB list other (given + length (option_to_list o)) m) e p)
@@ -229,4 +226,4 @@ pub closed-of : (a b : Bool) (QuietA QuietB : Type 0) (m : MatchingState) → Is
 closed-of a b QuietA QuietB m s none idle = let e = idle-ended m none idle in (s.over_a e.0, s.over_b e.1)
 
 pub wants-none : (o : Option Which) → is_some o ≡ false → o ≡ None
-wants-none o e = not-some o e
+wants-none o e = not_some o e

@@ -9,8 +9,8 @@ use Rattle.listener.specs.Laws.{presented_of}
 use Rattle.listener_pair.specs.declared.difference.Which.{Which}
 use Rattle.listener_pair.specs.declared.difference.Which.TheVariants.{A, B}
 use Rattle.listener_pair.specs.Merged.{IsInOrder}
-use Rattle.listener_pair.specs.Matching.{MatchingState, StandsFor, ended_by, given_to, lacks, nexts_left, wanted}
-use Rattle.listener_pair.proofs.Standing.{ended-a, ended-b, given-a, given-b, lacks-open, wants-a, wants-b}
+use Rattle.listener_pair.specs.Matching.{MatchingState, StandsFor, ended_by, given_to, nexts_left, wanted}
+use Rattle.listener_pair.proofs.Standing.{contradicts, ended-a, ended-b, given-a, given-b, lacks-open, lacks-some, wants-a, wants-b}
 use Rattle.capture_pair.specs.state.Sides.{Filled, Going, IsHeard, MatchesOn, handed, is_passed, one_if_open, open_sides}
 use Rattle.capture_pair.proofs.Joined.{order-front}
 
@@ -82,9 +82,6 @@ wanted-open-a m w = lacks-open m.ended_a m.next_a (wants-a m w)
 wanted-open-b : (m : MatchingState) → wanted m ≡ Some B → m.ended_b ≡ false
 wanted-open-b m w = lacks-open m.ended_b m.next_b (wants-b m w)
 
-contradicts : {P : Type 0} (u : Bool) → u ≡ false → u ≡ true → P
-contradicts u f t = let e = sym f ∙ t in absurd (cc)
-
 given-on : (which : Which) (list other : List Shown) (n k given : ℕ) (m : MatchingState) (batch : Presented) → IsHeard list → IsHeard other → wanted m ≡ Some which → slice_get list n ≡ Some (Present batch) → MatchesOn which list other n k given m
     → MatchesOn which list other (n + 1) k given (given_to which batch m)
 given-on A list other n k given m batch hl ho w e h = record {
@@ -152,10 +149,6 @@ hands-on which list other n k given m None true hl ho w e h = no-more which list
 hands-on which list other n k given m None false hl ho w e h = no-more which list other n k given m h
 
 -- ---- a side that is still wanted
-
-lacks-some : {P : Type 0} (e : Bool) (b : Presented) → lacks e (Some b) ≡ true → P
-lacks-some true b h = absurd (cc)
-lacks-some false b h = absurd (cc)
 
 gives-no : {P : Type 0} (which : Which) (batch : Presented) (m : MatchingState) → wanted (given_to which batch m) ≡ Some which → P
 gives-no A batch m h = lacks-some m.ended_a batch (wants-a (given_to A batch m) h)

@@ -23,7 +23,7 @@ use Rattle.listener_pair.specs.Differences.{differences}
 use Rattle.listener_pair.specs.Matching.{MatchingState, batches_of, wanted}
 use Rattle.listener_pair.proofs.Counting.{differences-front}
 use Rattle.listener_pair.proofs.PairLaws.{known-all as known-both}
-use Rattle.listener_pair.proofs.Standing.{lacks-none, lacks-open, wants-a, wants-b}
+use Rattle.listener_pair.proofs.Standing.{contradicts, lacks-none, lacks-open, wants-a, wants-b}
 use Rattle.capture_pair.specs.Pairing.{Continues, EndsAreClosed, HavePlan, Matches, PairState, StandsFor, known_by, presented_by, wanted_by}
 use Rattle.capture_pair.proofs.Filling.{none-left}
 use Rattle.capture_pair.proofs.Handing.{presented-append, presented-split}
@@ -41,14 +41,11 @@ pub record Longer (xs ys : List Presented) (ended : Bool) : Type 0 where
 longer-same : (xs ys : List Presented) (ended : Bool) → ys ≡ xs → Longer xs ys ended
 longer-same xs ys ended e = record { more = []; split = e ∙ sym (append-nil xs); none = λ t. refl }
 
-never-both : {P : Type 0} (e : Bool) → e ≡ false → e ≡ true → P
-never-both e f t = let x : false ≡ true = sym f ∙ t in absurd (cc)
-
 longer-open : (xs ys : List Shown) (ended : Bool) → ended ≡ false → IsPrefix xs ys → Longer (presented_of xs) (presented_of ys) ended
 longer-open xs ys ended opened first = record {
   more = presented_of first.0;
   split = ap presented_of (sym first.1) ∙ presented-append xs first.0;
-  none = λ t. never-both ended opened t;
+  none = λ t. contradicts ended opened t;
 }
 
 -- the items that are due after `records` are a prefix of the items that are shown of `records ++ more`
@@ -339,7 +336,7 @@ fault-a plan records others more given pair s plans ends w opened none =
       order_b = shown-in-order plan (others ++ more);
       none_a = λ t. refl;
       none_b = λ t. b.none (ends.b t);
-      over_a = λ t. never-both m.ended_a (lacks-open m.ended_a m.next_a (wants-a m w)) t;
+      over_a = λ t. contradicts m.ended_a (lacks-open m.ended_a m.next_a (wants-a m w)) t;
       over_b = λ t. refl;
     } in
     known-done-a list other s.shown_a s.shown_b given (presented_by pair.a records) (presented_by pair.b others)
@@ -369,7 +366,7 @@ fault-b plan records others more given pair s plans ends w opened none =
       none_a = λ t. a.none (ends.a t);
       none_b = λ t. refl;
       over_a = λ t. refl;
-      over_b = λ t. never-both m.ended_b (lacks-open m.ended_b m.next_b (wants-b m w)) t;
+      over_b = λ t. contradicts m.ended_b (lacks-open m.ended_b m.next_b (wants-b m w)) t;
     } in
     known-done-b list other s.shown_a s.shown_b given (presented_by pair.a records) (presented_by pair.b others)
     (is_closed pair.a) (is_closed pair.b) m s.matches (further-now records others pair ends) w (s.filled_b w) refl opened
