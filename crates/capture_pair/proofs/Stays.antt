@@ -6,6 +6,7 @@ use Rattle.std.specs.Prelude.{slice_get}
 use Rattle.std.specs.List.{list_any}
 use mathlib.Core.List.{IsPrefix}
 use Rattle.pcap_frames.specs.Capture.{Record}
+use Rattle.std.proofs.Math.Seq.{take-append_seam}
 use Rattle.sample_schedule.specs.Batches.{Presented}
 use Rattle.sample_schedule.specs.declared.shown.Shown.{Shown}
 use Rattle.listener.specs.declared.plan.ListenPlan.{ListenPlan}
@@ -142,14 +143,10 @@ further-known list other n k given xs ys ended_a ended_b m h f =
     ∙ known-all (presented_of (take n list)) (presented_of (take k other)) (left-of list n f.more_a) (left-of other k f.more_b) given ended_a ended_b m
     h.matched (further-goes list other n k given xs ys ended_a ended_b m h f)
 
-take-front : {T : Type 0} (xs more : List T) → take (length xs) (xs ++ more) ≡ xs
-take-front [] more = refl
-take-front {T} (x ∷ xs) more = ap {B = List T} (λ l. x ∷ l) (take-front xs more)
-
 front-take : (done more : List Sided) (given : ℕ) → given ≡ length (differences done) → take given (differences (done ++ more)) ≡ differences done
 front-take done more given e =
     let front = differences-front done more in
-    ap (λ (l : List Difference). take given l) front.1 ∙ ap (λ n. take n (differences done ++ front.0)) e ∙ take-front (differences done) front.0
+    ap (λ (l : List Difference). take given l) front.1 ∙ ap (λ n. take n (differences done ++ front.0)) e ∙ take-append_seam (differences done) front.0
 
 front-within : (done more : List Sided) (given : ℕ) → given ≡ length (differences done) → given ≤ length (differences (done ++ more))
 front-within done more given e =
