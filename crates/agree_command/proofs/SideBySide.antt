@@ -20,6 +20,7 @@ use Rattle.capture_io.specs.Formats.{records_in}
 use Rattle.avtp_base.specs.Told.{Appends, Keeps}
 use Rattle.avtp_base.proofs.Told.{Appends-kept}
 use Rattle.listener_pair.specs.Differences.{differences, counts_of}
+use Rattle.listener_pair.proofs.Standing.{contradicts}
 use Rattle.capture_pair.proofs.Stays.{given-stays, all-known, fault-a, fault-b}
 use Rattle.avtp_words.specs.Grammar.{Agreeing}
 use Rattle.capture_io.proofs.Giving.{given_first}
@@ -208,9 +209,6 @@ side_on which s t side side' pair pair' (step.Ended how) limit bytes mine theirs
     }
 side_on which s t side side' pair pair' step.Fault limit bytes mine theirs given unended fault memory read stands to = absurd (fault refl)
 side_on which s t side side' pair pair' step.NoMemory limit bytes mine theirs given unended fault memory read stands to = absurd (memory refl)
-
-contradicts : {P : Type 0} (u : Bool) → u ≡ false → u ≡ true → P
-contradicts u f t = let e = sym f ∙ t in absurd cc
 
 -- a capture that a step does not read
 other_kept : (limit : ℕ) (bytes : List ℕ) {t u : ShelfState} {k i : ℕ} {side side' : Side} (records : List Record) → side' ≡ side → ReadsSlot t u k i → slot_of side.source ≢ k
