@@ -13,7 +13,6 @@ use Rattle.capture_io.proofs.Ending.{ends_weaker}
 use Rattle.avtp_base.specs.Told.{Appends}
 use Rattle.avtp_base.proofs.Told.{Appends-trans}
 use Rattle.capture_io.specs.declared.end.End.{End}
-use Rattle.listener_pair.specs.declared.difference.PairCounts.{PairCounts}
 use Rattle.avtp_base.specs.declared.failed.OpenFault.{OpenFault}
 use Rattle.avtp_base.specs.Faults.{Rose}
 use Rattle.capture_io.specs.Source.{Sourcing, slot_of}
@@ -50,6 +49,7 @@ use Rattle.agree_command.specs.state.Comparing.IsCutIn.{in_a, in_b}
 use Rattle.agree_command.specs.state.Agree.{EndsWithLines}
 use Rattle.agree_command.specs.state.Comparing.RefusesTwo.{first, second}
 use Rattle.agree_command.specs.declared.comparing.Compared.{Compared}
+use Rattle.agree_command.specs.declared.comparing.Ended.{Ended}
 use Rattle.agree_command.specs.declared.comparing.Comparing.{Comparing}
 use Rattle.agree_command.proofs.TwoFiles.{both_closed}
 use Rattle.agree_command.specs.declared.comparing.Compared.TheVariants as ended_as
@@ -120,21 +120,23 @@ agree_fault asked all fault fault' x y is_a is_b cause (in_b prefix ends lines) 
     run_asked (AgreeYields asked all fault') (asked.a ∷ asked.b ∷ [])
     (tells_end _ [] (cut_b asked all fault' x y prefix is_a is_b (ends_weaker asked.listener.limit (Some y) fault fault' end.ReadFault prefix cause ends)) lines refl last) asks
 
-lines_end : {Outcome : Status → Yield → Type 0} {before : Option (List ℕ)} {h h' : SinkState} {w w' : List ℕ} {result : Result Status Failed} {ended : Status} {lines : List ℕ} (text : List ℕ)
-    → Outcome ended (says (text ++ lines)) → Appends before (written h.held w) text → EndsWithLines ended h h' w w' result lines → TellsYield Outcome HandsNothing before (written h'.held w') result
-lines_end {before = before} {h} {h'} {w} {w'} {result = Ok s} {ended} {lines} text outcome start last =
+lines_end : {Outcome : Status → Yield → Type 0} {before : Option (List ℕ)} {h h' : SinkState} {w w' : List ℕ} {result : Result Status Failed} (limit : ℕ) (ended : Ended) (text : List ℕ)
+    → Outcome (agree_status ended.counts.differ ended.a ended.b) (says (text ++ last_lines limit ended.counts ended.a ended.b)) → Appends before (written h.held w) text → EndsWithLines limit ended h h' w w' result
+    → TellsYield Outcome HandsNothing before (written h'.held w') result
+lines_end {before = before} {h} {h'} {w} {w'} {result = Ok s} limit ended text outcome start last =
+    let lines = last_lines limit ended.counts ended.a ended.b in
     let given : Gives HandsNothing before (written h'.held w') (says (text ++ lines)) = record { text = Appends-trans before (written h.held w) (written h'.held w') text lines start last.written; items = refl } in
-    record { ended = ended; yields = says (text ++ lines); outcome = outcome; whole = λ memory write. (last.status, given); part = part_whole (says (text ++ lines)) given }
-lines_end {before = before} {h} {h'} {w} {w'} {result = Err e} {ended} {lines} text outcome start last =
-    record { ended = ended; yields = says (text ++ lines); outcome = outcome; whole = tt; part = part_text refl (says (text ++ lines)) (prefix_after before (written h.held w) (written h'.held w') text lines start last.written) }
+    record { ended = agree_status ended.counts.differ ended.a ended.b; yields = says (text ++ lines); outcome = outcome; whole = λ memory write. (last.status, given); part = part_whole (says (text ++ lines)) given }
+lines_end {before = before} {h} {h'} {w} {w'} {result = Err e} limit ended text outcome start last =
+    let lines = last_lines limit ended.counts ended.a ended.b in
+    record { ended = agree_status ended.counts.differ ended.a ended.b; yields = says (text ++ lines); outcome = outcome; whole = tt; part = part_text refl (says (text ++ lines)) (prefix_after before (written h.held w) (written h'.held w') text lines start last.written) }
 
-pub agree_told : (asked : Agreeing) (all : Files) (fault : Type 0) {s t : ShelfState} {before : Option (List ℕ)} {h h' : SinkState} {w w' : List ℕ} {result : Result Status Failed} {a b : End} {counts : PairCounts} (x y : List ℕ) → all asked.a ≡ Some x → all asked.b ≡ Some y
-    → HasCompared asked x y a b counts before (written h.held w) → EndsWithLines (agree_status counts.differ a b) h h' w w' result (last_lines asked.listener.limit counts a b) → Asks (asked.a ∷ asked.b ∷ []) s t
+pub agree_told : (asked : Agreeing) (all : Files) (fault : Type 0) {s t : ShelfState} {before : Option (List ℕ)} {h h' : SinkState} {w w' : List ℕ} {result : Result Status Failed} {ended : Ended} (x y : List ℕ) → all asked.a ≡ Some x → all asked.b ≡ Some y
+    → HasCompared asked x y ended before (written h.held w) → EndsWithLines asked.listener.limit ended h h' w w' result → Asks (asked.a ∷ asked.b ∷ []) s t
     → TellsRun (AgreeYields asked all fault) HandsNothing s t before (written h'.held w') result
-agree_told asked all fault {h = h} {h'} {w} {w'} {result} {a} {b} {counts} x y is_a is_b has last asks =
-    let ended : EndsWithLines (agree_status (counts_of (merged_in asked x y)).differ _ _) h h' w w' result (last_lines asked.listener.limit (counts_of (merged_in asked x y)) _ _) = rw (has.counted, has.end_a, has.end_b) at last in
+agree_told asked all fault {ended = ended} x y is_a is_b has last asks =
     run_asked (AgreeYields asked all fault) (asked.a ∷ asked.b ∷ [])
-    (lines_end (difference_lines (differences (merged_in asked x y))) (compared asked all fault x y is_a is_b) has.lines ended) asks
+    (lines_end asked.listener.limit ended (difference_lines (differences (merged_in asked x y))) (rw (has.counts, has.a, has.b) (compared asked all fault x y is_a is_b)) has.lines last) asks
 
 -- ---- statuses
 
@@ -205,36 +207,37 @@ agree_unopened {s} {t} {result = result} asked fault (second there only refuses)
 
 -- ---- the command, over two files that were opened
 
-module _ {s t u v : ShelfState} {c c' : Comparing} {h mid : SinkState} {w m : List ℕ} {compared : Result Compared Failed} (asked : Agreeing) (opened : OpensTwo s t asked.listener.limit (plan_of asked.listener) asked.a asked.b (Ok c))
+module _ {s t u v : ShelfState} {c c' : Comparing} {h mid : SinkState} {w m : List ℕ} {compared : Result Compared Failed} (asked : Agreeing) (opened : OpensTwo s t asked (Ok c))
     (compares : Compares t u c c' h mid w m compared) (closes : ClosesTwo u v (slot_of c'.a.source) (slot_of c'.b.source)) where
   both_read : OnlyReads s v (asked.a ∷ asked.b ∷ [])
-  both_read = both_closed opened.opened compares.reads (subst (λ (k : ℕ). ClosesTwo u v k (slot_of c.b.source)) compares.slot_a (subst (ClosesTwo u v (slot_of c'.a.source)) compares.slot_b closes))
+  both_read = both_closed opened.opened compares.reads.two (subst (λ (k : ℕ). ClosesTwo u v k (slot_of c.b.source)) compares.reads.slot_a (subst (ClosesTwo u v (slot_of c'.a.source)) compares.reads.slot_b closes))
 
   rose_over : Rose t.reading_faults u.reading_faults → Rose s.reading_faults v.reading_faults
   rose_over rose = subst (λ (n : ℕ). Rose n v.reading_faults) opened.opened.reading (subst (Rose t.reading_faults) (sym closes.reading) rose)
 
-  told_over : (all : Files) → s.files ≡ Some all → IsSome v.files → (at : AreTold asked.listener.limit all asked.a asked.b t c) × ComparesTo asked at.bytes_a at.bytes_b (Rose t.reading_faults u.reading_faults) (written h.held w) (written mid.held m) compared
+  told_over : (all : Files) → s.files ≡ Some all → IsSome v.files → (at : AreTold asked all t c) × ComparesTo asked at.bytes_a at.bytes_b (Rose t.reading_faults u.reading_faults) (written h.held w) (written mid.held m) compared
   told_over all told still =
-      let at = opened.told all told (shown_before t.files v.files (KeepsFiles-trans t.files u.files v.files compares.reads.files closes.files) still) in
-      (at, compares.told asked at.bytes_a at.bytes_b opened.plans at.given_a at.given_b)
+      let at = opened.told all told (shown_before t.files v.files (KeepsFiles-trans t.files u.files v.files compares.reads.two.files closes.files) still) in
+      (at, compares.told asked at.bytes_a at.bytes_b at.unread)
 
   does_over : {h' : SinkState} {w' : List ℕ} {result : Result Status Failed}
       → ((all : Files) → s.files ≡ Some all → IsSome v.files → TellsRun (AgreeYields asked all (Rose s.reading_faults v.reading_faults)) HandsNothing s v (written h.held w) (written h'.held w') result)
       → CountsReading (asked.a ∷ asked.b ∷ []) s.files s.reading_faults v.reading_faults result → IsReadingStatus result → KeepsSink h h' result → DoesReading (AgreeYields asked) (asked.a ∷ asked.b ∷ []) HandsNothing s v h h' w w' result
   does_over tells counts own sink = record { tells = tells; count = 2; within = omega arith; all = λ done. refl; keeps = both_read; counts = counts; own = own; sink = sink }
 
-pub agree_ends : {s t u v : ShelfState} {c c' : Comparing} {h mid h' : SinkState} {w m w' : List ℕ} {result : Result Status Failed} {a b : End} {counts : PairCounts} (asked : Agreeing) → OpensTwo s t asked.listener.limit (plan_of asked.listener) asked.a asked.b (Ok c)
-    → Compares t u c c' h mid w m (Ok (ended_as.Ended a b counts)) → ClosesTwo u v (slot_of c'.a.source) (slot_of c'.b.source)
-    → EndsWithLines (agree_status counts.differ a b) mid h' m w' result (last_lines asked.listener.limit counts a b) → DoesReading (AgreeYields asked) (asked.a ∷ asked.b ∷ []) HandsNothing s v h h' w w' result
-agree_ends {s} {t} {u} {v} {result = result} {a} {b} {counts} asked opened compares closes last =
+pub agree_ends : {s t u v : ShelfState} {c c' : Comparing} {h mid h' : SinkState} {w m w' : List ℕ} {result : Result Status Failed} {ended : Ended} (asked : Agreeing) → OpensTwo s t asked (Ok c)
+    → Compares t u c c' h mid w m (Ok (ended_as.Ended ended)) → ClosesTwo u v (slot_of c'.a.source) (slot_of c'.b.source)
+    → EndsWithLines asked.listener.limit ended mid h' m w' result → DoesReading (AgreeYields asked) (asked.a ∷ asked.b ∷ []) HandsNothing s v h h' w w' result
+agree_ends {s} {t} {u} {v} {result = result} {ended} asked opened compares closes last =
     let counted = compares.counted in
-    let ends = reads_status counts.differ a b counted.0 counted.1 in
+    let status = agree_status ended.counts.differ ended.a ended.b in
+    let ends = reads_status ended.counts.differ ended.a ended.b counted.0 counted.1 in
     let same : v.reading_faults ≡ s.reading_faults = closes.reading ∙ counted.2 ∙ opened.opened.reading in
     does_over asked opened compares closes
     (λ all told still. let so = told_over asked opened compares closes all told still in agree_told asked all _ so.0.bytes_a so.0.bytes_b so.0.is_a so.0.is_b so.1 last (both_read asked opened compares closes).asked)
-    (counts_by (agree_status counts.differ a b) result (both_read asked opened compares closes).reading (inl (ends.1, same)) last.status) (own_as result (agree_status counts.differ a b) ends.0 last.status) (sink_then compares.sink last.sink)
+    (counts_by status result (both_read asked opened compares closes).reading (inl (ends.1, same)) last.status) (own_as result status ends.0 last.status) (sink_then compares.sink last.sink)
 
-pub agree_stops : {s t u v : ShelfState} {c c' : Comparing} {h mid h' : SinkState} {w m w' : List ℕ} {result : Result Status Failed} (asked : Agreeing) → OpensTwo s t asked.listener.limit (plan_of asked.listener) asked.a asked.b (Ok c)
+pub agree_stops : {s t u v : ShelfState} {c c' : Comparing} {h mid h' : SinkState} {w m w' : List ℕ} {result : Result Status Failed} (asked : Agreeing) → OpensTwo s t asked (Ok c)
     → Compares t u c c' h mid w m (Ok ended_as.Fault) → ClosesTwo u v (slot_of c'.a.source) (slot_of c'.b.source)
     → EndsWith status.ReadFault mid h' m w' result read_fault_line → DoesReading (AgreeYields asked) (asked.a ∷ asked.b ∷ []) HandsNothing s v h h' w w' result
 agree_stops {s} {t} {u} {v} {result = result} asked opened compares closes last =
@@ -243,14 +246,14 @@ agree_stops {s} {t} {u} {v} {result = result} asked opened compares closes last 
     (λ all told still. let so = told_over asked opened compares closes all told still in agree_fault asked all _ _ so.0.bytes_a so.0.bytes_b so.0.is_a so.0.is_b rose so.1 last (both_read asked opened compares closes).asked)
     (counts_by status.ReadFault result (both_read asked opened compares closes).reading (inr (refl, rose compares.counted)) last.status) (own_as result status.ReadFault refl last.status) (sink_then compares.sink last.sink)
 
-pub agree_no_memory : {s t u v : ShelfState} {c c' : Comparing} {h mid : SinkState} {w m : List ℕ} (asked : Agreeing) → OpensTwo s t asked.listener.limit (plan_of asked.listener) asked.a asked.b (Ok c)
+pub agree_no_memory : {s t u v : ShelfState} {c c' : Comparing} {h mid : SinkState} {w m : List ℕ} (asked : Agreeing) → OpensTwo s t asked (Ok c)
     → Compares t u c c' h mid w m (Ok ended_as.NoMemory) → ClosesTwo u v (slot_of c'.a.source) (slot_of c'.b.source) → DoesReading (AgreeYields asked) (asked.a ∷ asked.b ∷ []) HandsNothing s v h mid w m (Ok status.Memory)
 agree_no_memory asked opened compares closes =
     does_over asked opened compares closes
     (λ all told still. let so = told_over asked opened compares closes all told still in agree_cut asked all _ so.0.bytes_a so.0.bytes_b so.0.is_a so.0.is_b (inl refl) so.1 (both_read asked opened compares closes).asked)
     (counts_memory (Ok status.Memory) (both_read asked opened compares closes).reading refl) refl (sink_ok status.Memory compares.sink)
 
-pub agree_failed : {s t u v : ShelfState} {c c' : Comparing} {h mid : SinkState} {w m : List ℕ} {e : Failed} (e' : Failed) (asked : Agreeing) → OpensTwo s t asked.listener.limit (plan_of asked.listener) asked.a asked.b (Ok c)
+pub agree_failed : {s t u v : ShelfState} {c c' : Comparing} {h mid : SinkState} {w m : List ℕ} {e : Failed} (e' : Failed) (asked : Agreeing) → OpensTwo s t asked (Ok c)
     → Compares t u c c' h mid w m (Err e) → ClosesTwo u v (slot_of c'.a.source) (slot_of c'.b.source) → DoesReading (AgreeYields asked) (asked.a ∷ asked.b ∷ []) HandsNothing s v h mid w m (Err e')
 agree_failed e' asked opened compares closes =
     does_over asked opened compares closes

@@ -10,14 +10,14 @@ ghost use Rattle.agree_command.specs.state.Agree.{EndsWithLines};
 ghost use Rattle.run_report.specs.Reading.{DoesReading};
 ghost use Rattle.run_report.specs.Yield.{HandsNothing};
 
-use crate::comparing::{Compared, Comparing};
+use crate::comparing::{Compared, Comparing, Ended};
 use avtp_base::Failed;
 use avtp_files::{Shelf, Sink};
 use avtp_text::{PacketPair, Text};
 use avtp_words::Agree;
 use capture_io::End;
 use listener_pair::{Difference, PairCounts, Way};
-use run_report::{Status, plan, print_fault, print_side, print_unopened};
+use run_report::{Context, Status, print_fault, print_side, print_unopened};
 use std::alloc::Global;
 
 /// Compares the samples that a listener presents of one stream in two captures, and prints each difference. Then prints
@@ -27,30 +27,20 @@ use std::alloc::Global;
 pub fn agree<F: Shelf, S: Sink>(
     alloc: Global,
     asked: &Agree<'_>,
-    shelf: &mut F,
-    text: &mut Text,
-    out: &mut S,
+    context: Context<'_, '_, '_, F, S>,
 ) -> Result<Status, Failed>
     requires { IsAgreeing (agreeing_of asked.now) }
-    ensures { DoesReading (AgreeYields (agreeing_of asked.now)) (asked.now.a.now ∷ asked.now.b.now ∷ []) HandsNothing (F.state shelf.old) (F.state shelf.new) (S.state out.old) (S.state out.new) text.old text.new result }
+    ensures { DoesReading (AgreeYields (agreeing_of asked.now)) (asked.now.a.now ∷ asked.now.b.now ∷ []) HandsNothing (F.state context.entry.shelf.now) (F.state context.exit.0.now) (S.state context.entry.out.now) (S.state context.exit.1.1.0.now) context.entry.text.now context.exit.1.0.now result }
 {
-    let listener = &asked.listener;
-    let opened = Comparing::open(
-        alloc,
-        listener.limit,
-        plan(listener),
-        shelf,
-        asked.a,
-        asked.b,
-    );
-    let mut comparing = match opened {
+    let Context { shelf, text, out } = context;
+    let mut comparing = match Comparing::open(alloc, asked, shelf) {
         Ok(comparing) => comparing,
         Err(fault) => return print_unopened(text, out, fault),
     };
-    let compared = comparing.compare(alloc, shelf, text, out);
+    let compared = comparing.compare(alloc, Context { shelf, text, out });
     comparing.close(shelf);
     match compared? {
-        Compared::Ended { a, b, counts } => print_end(text, out, listener.limit, a, b, &counts),
+        Compared::Ended(ended) => print_end(text, out, asked.listener.limit, &ended),
         Compared::Fault => print_fault(text, out),
         Compared::NoMemory => Ok(Status::Memory),
     }
@@ -81,14 +71,12 @@ fn print_end<S: Sink>(
     text: &mut Text,
     out: &mut S,
     limit: u64,
-    a: End,
-    b: End,
-    counts: &PairCounts,
+    ended: &Ended,
 ) -> Result<Status, Failed>
-    ensures { EndsWithLines (agree_status counts.now.differ a b) (S.state out.old) (S.state out.new) text.old text.new result (last_lines limit counts.now a b) }
+    ensures { EndsWithLines limit ended.now (S.state out.old) (S.state out.new) text.old text.new result }
 {
-    print_last(text, out, limit, a, b, counts)?;
-    Ok(status_of(counts.differ, a, b))
+    print_last(text, out, limit, ended)?;
+    Ok(status_of(ended))
 }
 
 /// If both captures were read to their ends, prints the counts. If a capture was not read to its end, prints a line for
@@ -97,14 +85,12 @@ fn print_last<S: Sink>(
     text: &mut Text,
     out: &mut S,
     limit: u64,
-    a: End,
-    b: End,
-    counts: &PairCounts,
+    ended: &Ended,
 ) -> Result<(), Failed>
-    ensures { PrintsPart (S.state out.old) (S.state out.new) text.old text.new result (last_lines limit counts.now a b) }
+    ensures { PrintsPart (S.state out.old) (S.state out.new) text.old text.new result (last_lines limit ended.now.counts ended.now.a ended.now.b) }
 {
-    match (a, b) {
-        (End::Whole, End::Whole) => print_counts(text, out, counts),
+    match (ended.a, ended.b) {
+        (End::Whole, End::Whole) => print_counts(text, out, &ended.counts),
         (End::Whole, b) => print_side(text, out, limit, b),
         (a, b) => print_sides(text, out, limit, a, b),
     }
@@ -137,12 +123,12 @@ fn print_counts<S: Sink>(text: &mut Text, out: &mut S, counts: &PairCounts) -> R
     )
 }
 
-/// The status of a run that found `found` differences, given how the readings of A and B ended.
-fn status_of(found: u64, a: End, b: End) -> Status
-    ensures { result ≡ agree_status found a b }
+/// The status of a run whose comparison ended in this way.
+fn status_of(ended: &Ended) -> Status
+    ensures { result ≡ agree_status ended.now.counts.differ ended.now.a ended.now.b }
 {
-    match (a, b) {
-        (End::Whole, End::Whole) if found > 0 => Status::Findings,
+    match (ended.a, ended.b) {
+        (End::Whole, End::Whole) if ended.counts.differ > 0 => Status::Findings,
         (End::Whole, b) => Status::of(b),
         (a, _) => Status::of(a),
     }

@@ -1,32 +1,40 @@
 //! Two captures that are read side by side, each only as far as the comparison needs.
 
-ghost use Rattle.std.specs.Prelude.{◌≡◌, ◌≤◌, ◌<◌, ◌^◌, Some, IsSome};
+ghost use Rattle.std.specs.Prelude.{◌≡◌, ◌<◌, ◌^◌, Some, IsSome};
 ghost use Rattle.capture_io.specs.Source.{held_in, slot_of};
-ghost use Rattle.sample_schedule.specs.Limits.{IsPlan};
-ghost use Rattle.listener.specs.Heard.{schedule_plan};
+ghost use Rattle.avtp_words.specs.Grammar.{agreeing_of};
 ghost use Rattle.capture_pair.specs.Pairing.{IsThrough, listener_of, wanted_by};
+ghost use Rattle.agree_command.specs.Agree.{IsAgreeing};
 ghost use Rattle.agree_command.specs.state.Comparing.{ClosesTwo, Compares, EndsCompared, IsBegun, IsOpenAt, OpensTwo, PrintsDifferences, ReadsOn, ReadsSide, TakesHeld, is_fault as is_fault_end};
 
 use crate::command::print_difference;
 use avtp_base::{Failed, NoMemory, OpenFault};
 use avtp_files::{Shelf, Sink};
 use avtp_text::Text;
+use avtp_words::Agree;
 use capture_io::{End, Source};
 use capture_pair::RecordPair;
-use listener::ListenPlan;
 use listener_pair::{PairCounts, Which};
-use run_report::next_record;
+use run_report::{Context, next_record, plan};
 use std::alloc::Global;
 
 /// How far two captures were compared.
 #[derive(Clone, Copy, Debug, PartialEq, Eq)]
 pub enum Compared {
-    /// Both readings ended; `a` and `b` say how. `counts` are the final counts.
-    Ended { a: End, b: End, counts: PairCounts },
+    /// Both readings ended.
+    Ended(Ended),
     /// The comparison stopped at a read fault.
     Fault,
     /// The comparison stopped at a record, because there was no memory for that record.
     NoMemory,
+}
+
+/// How the readings of A and B ended, and the final counts.
+#[derive(Clone, Copy, Debug, PartialEq, Eq)]
+pub struct Ended {
+    pub a: End,
+    pub b: End,
+    pub counts: PairCounts,
 }
 
 /// The result of one step of reading one of two captures.
@@ -58,29 +66,26 @@ pub struct Comparing {
 }
 
 impl Comparing {
-    /// Opens two captures, A before B. At most `limit` bytes of each capture will be read. If a capture cannot be
-    /// opened or memory runs out, neither capture stays open.
+    /// Opens the two captures, A before B. At most `asked.listener.limit` bytes of each capture will be read. If a
+    /// capture cannot be opened or memory runs out, neither capture stays open.
     pub fn open<F: Shelf>(
         alloc: Global,
-        limit: u64,
-        plan: ListenPlan,
+        asked: &Agree<'_>,
         shelf: &mut F,
-        a: &str,
-        b: &str,
     ) -> Result<Comparing, OpenFault>
-        requires limit { limit ≤ 2 ^ 40 }
-        requires plan { IsPlan (schedule_plan plan) }
-        ensures { OpensTwo (F.state shelf.old) (F.state shelf.new) limit plan a.now b.now result }
+        requires { IsAgreeing (agreeing_of asked.now) }
+        ensures { OpensTwo (F.state shelf.old) (F.state shelf.new) (agreeing_of asked.now) result }
     {
-        let a = Source::open(alloc, limit, shelf, a)?;
-        let b = match Source::open(alloc, limit, shelf, b) {
+        let limit = asked.listener.limit;
+        let a = Source::open(alloc, limit, shelf, asked.a)?;
+        let b = match Source::open(alloc, limit, shelf, asked.b) {
             Ok(b) => b,
             Err(fault) => {
                 a.close(shelf);
                 return Err(fault);
             }
         };
-        let Ok(pair) = RecordPair::begin(alloc, plan) else {
+        let Ok(pair) = RecordPair::begin(alloc, plan(&asked.listener)) else {
             b.close(shelf);
             a.close(shelf);
             return Err(OpenFault::Memory);
@@ -112,20 +117,19 @@ impl Comparing {
     pub fn compare<F: Shelf, S: Sink>(
         &mut self,
         alloc: Global,
-        shelf: &mut F,
-        text: &mut Text,
-        out: &mut S,
+        context: Context<'_, '_, '_, F, S>,
     ) -> Result<Compared, Failed>
-        requires open { IsOpenAt (F.state shelf.old) self.old }
+        requires open { IsOpenAt (F.state context.shelf.now) self.old }
         requires begun { IsBegun self.old }
-        ensures { Compares (F.state shelf.old) (F.state shelf.new) self.old self.new (S.state out.old) (S.state out.new) text.old text.new result }
+        ensures { Compares (F.state context.entry.shelf.now) (F.state context.exit.0.now) self.old self.new (S.state context.entry.out.now) (S.state context.exit.1.1.0.now) context.entry.text.now context.exit.1.0.now result }
     {
+        let Context { shelf, text, out } = context;
         loop {
             print_differences(&mut self.pair, text, out)?;
             let Some(which) = self.pair.wants() else {
-                return Ok(self.ended());
+                return Ok(Compared::Ended(self.ended()));
             };
-            match self.read_on(alloc, which, shelf, text, out)? {
+            match self.read_on(alloc, which, Context { shelf, text, out })? {
                 Step::Fault => return Ok(Compared::Fault),
                 Step::NoMemory => return Ok(Compared::NoMemory),
                 _ => {}
@@ -138,23 +142,21 @@ impl Comparing {
         &mut self,
         alloc: Global,
         which: Which,
-        shelf: &mut F,
-        text: &mut Text,
-        out: &mut S,
+        context: Context<'_, '_, '_, F, S>,
     ) -> Result<Step, Failed>
         requires wanted { wanted_by self.old.pair ≡ Some which }
         requires few { (listener_of which self.old.pair).counts.frames < 2 ^ 61 }
-        requires open { IsOpenAt (F.state shelf.old) self.old }
-        ensures { ReadsOn which (F.state shelf.old) (F.state shelf.new) self.old self.new (S.state out.old) (S.state out.new) text.old text.new result }
+        requires open { IsOpenAt (F.state context.shelf.now) self.old }
+        ensures { ReadsOn which (F.state context.entry.shelf.now) (F.state context.exit.0.now) self.old self.new (S.state context.entry.out.now) (S.state context.exit.1.1.0.now) context.entry.text.now context.exit.1.0.now result }
     {
         match which {
-            Which::A => read_side(alloc, which, &mut self.a, &mut self.pair, shelf, text, out),
-            Which::B => read_side(alloc, which, &mut self.b, &mut self.pair, shelf, text, out),
+            Which::A => read_side(alloc, which, &mut self.a, &mut self.pair, context),
+            Which::B => read_side(alloc, which, &mut self.b, &mut self.pair, context),
         }
     }
 
     /// The result of the comparison, once both readings have ended and all differences are printed.
-    fn ended(&self) -> Compared
+    fn ended(&self) -> Ended
         requires ends { IsSome self.now.a.end × IsSome self.now.b.end }
         requires through { IsThrough self.now.pair }
         ensures { EndsCompared self.now result }
@@ -162,7 +164,7 @@ impl Comparing {
         let (Some(a), Some(b)) = (self.a.end, self.b.end) else {
             unreachable!()
         };
-        Compared::Ended {
+        Ended {
             a,
             b,
             counts: self.pair.counts(),
@@ -190,15 +192,14 @@ fn read_side<F: Shelf, S: Sink>(
     which: Which,
     side: &mut Side,
     pair: &mut RecordPair,
-    shelf: &mut F,
-    text: &mut Text,
-    out: &mut S,
+    context: Context<'_, '_, '_, F, S>,
 ) -> Result<Step, Failed>
     requires wanted { wanted_by pair.old ≡ Some which }
     requires few { (listener_of which pair.old).counts.frames < 2 ^ 61 }
-    requires live { IsSome ((F.state shelf.old).slots (slot_of side.old.source)) }
-    ensures { ReadsSide which (F.state shelf.old) (F.state shelf.new) side.old side.new pair.old pair.new (S.state out.old) (S.state out.new) text.old text.new result }
+    requires live { IsSome ((F.state context.shelf.now).slots (slot_of side.old.source)) }
+    ensures { ReadsSide which (F.state context.entry.shelf.now) (F.state context.exit.0.now) side.old side.new pair.old pair.new (S.state context.entry.out.now) (S.state context.exit.1.1.0.now) context.entry.text.now context.exit.1.0.now result }
 {
+    let Context { shelf, text, out } = context;
     let end = next_record(&mut side.source, shelf, text, out)?;
     side.end = end;
     let Some(end) = end else {

@@ -1,9 +1,10 @@
 -- If both sides of a matching are filled, the matching returns the next difference. The differences are those of a
 -- comparison of all batches that the sides present.
-use Rattle.std.proofs.Common.{◌≡◌, ℕ, ◌+◌, ◌<◌, ◌≤◌, Bool, true, false, cond, ◌⊎◌, inl, inr, List, [], ◌∷◌, ◌++◌, length, take, drop, Option, Some, None, refl, sym, ap, ◌∙◌, subst, arith}
+use Rattle.std.proofs.Common.{◌≡◌, ℕ, ◌+◌, ◌<◌, ◌≤◌, Bool, true, false, cond, ◌⊎◌, inl, inr, List, [], ◌++◌, length, take, drop, Option, Some, None, refl, sym, ap, ◌∙◌, subst, arith}
 use Rattle.std.specs.Prelude.{IfNone, IsSome, is_some, slice_get}
 use Rattle.std.specs.Option.{option_to_list}
 use Rattle.std.proofs.lemmas.Option.{slice_get_past}
+use Rattle.std.proofs.lemmas.List.{drop_all}
 use Rattle.sample_schedule.specs.Batches.{Presented}
 use Rattle.sample_schedule.specs.declared.shown.Shown.{Shown}
 use Rattle.listener.specs.Laws.{presented_of}
@@ -91,15 +92,8 @@ less-both ended_a ended_b QuietA QuietB m0 m1 m2 a0 a1 b0 b1 some none f g la lb
 
 -- ---- the next difference
 
-drop-all : (n : ℕ) (xs : List Shown) → n ≡ length xs → drop n xs ≡ []
-drop-all n xs e = ap (λ k. drop k xs) e ∙ all xs
-  where
-    all : (xs : List Shown) → drop (length xs) xs ≡ []
-    all [] = refl
-    all (x ∷ xs) = all xs
-
 pub none-left : (n : ℕ) (xs : List Shown) → n ≡ length xs → presented_of (drop n xs) ≡ []
-none-left n xs e = ap presented_of (drop-all n xs e)
+none-left n xs e = ap presented_of (drop_all n xs (omega (arith, e)))
 
 pub goes-on : (list other : List Shown) (n k given : ℕ) (over_a over_b : Bool) (m : MatchingState) → IsHeard list → IsHeard other → Matches list other n k given m → (m.ended_a ≡ true → over_a ≡ true) → (m.ended_b ≡ true → over_b ≡ true)
     → GoesOn (presented_of (take n list)) (presented_of (take k other)) (presented_of (drop n list)) (presented_of (drop k other)) over_a over_b m
@@ -189,16 +183,9 @@ pairs-zero ShowsA ShowsB list other given m p = subst (λ (g : ℕ). Pairs Shows
 
 -- ---- what is returned
 
-not-some : {T : Type 0} (o : Option T) → is_some o ≡ false → o ≡ None
-not-some None e = refl
-not-some (Some x) e = absurd (cc)
-
 some-one : {T : Type 0} (o : Option T) → is_some o ≡ true → length (option_to_list o) ≡ 1
 some-one None e = absurd (cc)
 some-one (Some x) e = refl
-
-pub none-of : (d : Option Difference) → is_some d ≡ false → d ≡ None
-none-of d e = not-some d e
 
 pub pairs-none : (ShowsA ShowsB : List Shown → ℕ → Type 0) (list other : List Shown) (given : ℕ) (m : MatchingState) (d : Option Difference) → d ≡ None → Pairs ShowsA ShowsB list other (given + length (option_to_list d)) m → Pairs ShowsA ShowsB list other given m
 pairs-none ShowsA ShowsB list other given m d e p = pairs-zero ShowsA ShowsB list other given m (subst (λ (o : Option Difference). Pairs ShowsA ShowsB list other (given + length (option_to_list o)) m) e p)
@@ -227,6 +214,3 @@ idle-of (Some x) m h e = absurd (cc)
 
 pub closed-of : (a b : Bool) (QuietA QuietB : Type 0) (m : MatchingState) → IsSettled a b QuietA QuietB m → wanted m ≡ None → IsIdle m → (a ≡ true) × (b ≡ true)
 closed-of a b QuietA QuietB m s none idle = let e = idle-ended m none idle in (s.over_a e.0, s.over_b e.1)
-
-pub wants-none : (o : Option Which) → is_some o ≡ false → o ≡ None
-wants-none o e = not-some o e

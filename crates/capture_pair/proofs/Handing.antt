@@ -2,15 +2,18 @@
 use Rattle.std.proofs.Common.{◌≡◌, ℕ, zero, suc, ◌+◌, ◌<◌, ◌≤◌, Bool, true, false, ◌⊎◌, inl, inr, List, [], ◌∷◌, ◌++◌, length, take, drop, Option, Some, None, refl, sym, ap, ◌∙◌, subst, append-nil, arith}
 use Rattle.std.specs.Prelude.{slice_get}
 use Rattle.std.specs.Option.{option_to_list}
+use Rattle.std.proofs.lemmas.List.{length-take, take-append-drop}
+use Rattle.std.proofs.lemmas.Option.{slice_get_within}
 use Rattle.sample_schedule.specs.Batches.{Presented}
 use Rattle.sample_schedule.specs.declared.shown.Shown.{Shown}
 use Rattle.sample_schedule.specs.declared.shown.Shown.TheVariants.{Present, Flag}
 use Rattle.listener.specs.Laws.{presented_of}
+use Rattle.listener.proofs.Listened.{take_next}
 use Rattle.listener_pair.specs.declared.difference.Which.{Which}
 use Rattle.listener_pair.specs.declared.difference.Which.TheVariants.{A, B}
 use Rattle.listener_pair.specs.Merged.{IsInOrder}
-use Rattle.listener_pair.specs.Matching.{MatchingState, StandsFor, ended_by, given_to, lacks, nexts_left, wanted}
-use Rattle.listener_pair.proofs.Standing.{ended-a, ended-b, given-a, given-b, lacks-open, wants-a, wants-b}
+use Rattle.listener_pair.specs.Matching.{MatchingState, StandsFor, ended_by, given_to, nexts_left, wanted}
+use Rattle.listener_pair.proofs.Standing.{contradicts, ended-a, ended-b, given-a, given-b, lacks-open, lacks-some, wants-a, wants-b}
 use Rattle.capture_pair.specs.state.Sides.{Filled, Going, IsHeard, MatchesOn, handed, is_passed, one_if_open, open_sides}
 use Rattle.capture_pair.proofs.Joined.{order-front}
 
@@ -26,48 +29,26 @@ presented-few [] = omega arith
 presented-few (Present batch ∷ xs) = let h = presented-few xs in omega arith
 presented-few (Flag frame seq reason ∷ xs) = let h = presented-few xs in omega arith
 
-pub take-drop : (n : ℕ) (xs : List Shown) → take n xs ++ drop n xs ≡ xs
-take-drop zero xs = refl
-take-drop (suc n) [] = refl
-take-drop (suc n) (x ∷ xs) = ap (λ (l : List Shown). x ∷ l) (take-drop n xs)
-
-pub take-few : (n : ℕ) (xs : List Shown) → length (take n xs) ≤ n
-take-few zero xs = omega arith
-take-few (suc n) [] = omega arith
-take-few (suc n) (x ∷ xs) = let h = take-few n xs in omega arith
-
-take-one : (n : ℕ) (xs : List Shown) (x : Shown) → slice_get xs n ≡ Some x → take (suc n) xs ≡ take n xs ++ x ∷ []
-take-one n [] x e = absurd (cc)
-take-one zero (y ∷ xs) x e = let s : y ≡ x = cc in ap (λ (z : Shown). z ∷ []) s
-take-one (suc n) (y ∷ xs) x e = ap (λ (l : List Shown). y ∷ l) (take-one n xs x e)
-
-get-within : (n : ℕ) (xs : List Shown) (x : Shown) → slice_get xs n ≡ Some x → n < length xs
-get-within n [] x e = absurd (cc)
-get-within zero (y ∷ xs) x e = omega arith
-get-within (suc n) (y ∷ xs) x e = let h = get-within n xs x e in omega arith
-
 get-none : (n : ℕ) (xs : List Shown) → slice_get xs n ≡ None → length xs ≤ n
 get-none n [] e = omega arith
 get-none zero (y ∷ xs) e = absurd (cc)
 get-none (suc n) (y ∷ xs) e = let h = get-none n xs e in omega arith
 
 pub presented-split : (n : ℕ) (xs : List Shown) → presented_of (take n xs) ++ presented_of (drop n xs) ≡ presented_of xs
-presented-split n xs = sym (presented-append (take n xs) (drop n xs)) ∙ ap presented_of (take-drop n xs)
+presented-split n xs = sym (presented-append (take n xs) (drop n xs)) ∙ ap presented_of (take-append-drop n xs)
 
 taken-few : (n : ℕ) (xs : List Shown) → length (presented_of (take n xs)) ≤ n
-taken-few n xs = let a = presented-few (take n xs) in let b = take-few n xs in omega arith
+taken-few n xs = let a = presented-few (take n xs) in let b = length-take n xs in omega arith
 
 -- if item n is a batch, the batches among the first n + 1 items are those among the first n items, followed by this
 -- batch
 next-batch : (n : ℕ) (xs : List Shown) (batch : Presented) → slice_get xs n ≡ Some (Present batch) → presented_of (take (n + 1) xs) ≡ presented_of (take n xs) ++ batch ∷ []
 next-batch n xs batch e =
-    let one : n + 1 ≡ suc n = omega arith in
-    ap (λ k. presented_of (take k xs)) one ∙ ap presented_of (take-one n xs (Present batch) e) ∙ presented-append (take n xs) (Present batch ∷ [])
+    ap presented_of (take_next xs n (Present batch) e) ∙ presented-append (take n xs) (Present batch ∷ [])
 
 next-flag : (n : ℕ) (xs : List Shown) (x : Shown) → slice_get xs n ≡ Some x → presented_of (x ∷ []) ≡ [] → presented_of (take (n + 1) xs) ≡ presented_of (take n xs)
 next-flag n xs x e f =
-    let one : n + 1 ≡ suc n = omega arith in
-    ap (λ k. presented_of (take k xs)) one ∙ ap presented_of (take-one n xs x e) ∙ presented-append (take n xs) (x ∷ []) ∙ ap (λ (l : List Presented). presented_of (take n xs) ++ l) f ∙ append-nil (presented_of (take n xs))
+    ap presented_of (take_next xs n x e) ∙ presented-append (take n xs) (x ∷ []) ∙ ap (λ (l : List Presented). presented_of (take n xs) ++ l) f ∙ append-nil (presented_of (take n xs))
 
 -- if item n is a batch, the batches among the first n items and then this batch are in order
 next-order : (n : ℕ) (xs : List Shown) (batch : Presented) → IsHeard xs → slice_get xs n ≡ Some (Present batch) → IsInOrder (presented_of (take n xs) ++ batch ∷ [])
@@ -82,33 +63,30 @@ wanted-open-a m w = lacks-open m.ended_a m.next_a (wants-a m w)
 wanted-open-b : (m : MatchingState) → wanted m ≡ Some B → m.ended_b ≡ false
 wanted-open-b m w = lacks-open m.ended_b m.next_b (wants-b m w)
 
-contradicts : {P : Type 0} (u : Bool) → u ≡ false → u ≡ true → P
-contradicts u f t = let e = sym f ∙ t in absurd (cc)
-
 given-on : (which : Which) (list other : List Shown) (n k given : ℕ) (m : MatchingState) (batch : Presented) → IsHeard list → IsHeard other → wanted m ≡ Some which → slice_get list n ≡ Some (Present batch) → MatchesOn which list other n k given m
     → MatchesOn which list other (n + 1) k given (given_to which batch m)
 given-on A list other n k given m batch hl ho w e h = record {
-  within_a = let h = get-within n list (Present batch) e in omega arith;
+  within_a = let h = slice_get_within list n (Present batch) e in omega arith;
   within_b = h.within_b;
   matched = subst (λ (l : List Presented). StandsFor l (presented_of (take k other)) given (given_to A batch m)) (sym (next-batch n list batch e))
       (given-a (presented_of (take n list)) (presented_of (take k other)) given m batch h.matched w (next-order n list batch hl e)
-      (let a = get-within n list (Present batch) e in let b = taken-few n list in let c = taken-few k other in let d = h.within_b in let x = hl.few in let y = ho.few in omega arith));
+      (let a = slice_get_within list n (Present batch) e in let b = taken-few n list in let c = taken-few k other in let d = h.within_b in let x = hl.few in let y = ho.few in omega arith));
   ended_a = λ t. contradicts m.ended_a (wanted-open-a m w) t;
   ended_b = h.ended_b;
 }
 given-on B list other n k given m batch hl ho w e h = record {
   within_a = h.within_a;
-  within_b = let h = get-within n list (Present batch) e in omega arith;
+  within_b = let h = slice_get_within list n (Present batch) e in omega arith;
   matched = subst (λ (l : List Presented). StandsFor (presented_of (take k other)) l given (given_to B batch m)) (sym (next-batch n list batch e))
       (given-b (presented_of (take k other)) (presented_of (take n list)) given m batch h.matched w (next-order n list batch hl e)
-      (let a = get-within n list (Present batch) e in let b = taken-few n list in let c = taken-few k other in let d = h.within_a in let x = hl.few in let y = ho.few in omega arith));
+      (let a = slice_get_within list n (Present batch) e in let b = taken-few n list in let c = taken-few k other in let d = h.within_a in let x = hl.few in let y = ho.few in omega arith));
   ended_a = h.ended_a;
   ended_b = λ t. contradicts m.ended_b (wanted-open-b m w) t;
 }
 
 passed-on : (which : Which) (list other : List Shown) (n k given : ℕ) (m : MatchingState) (x : Shown) → wanted m ≡ Some which → slice_get list n ≡ Some x → presented_of (x ∷ []) ≡ [] → MatchesOn which list other n k given m → MatchesOn which list other (n + 1) k given m
 passed-on A list other n k given m x w e f h = record {
-  within_a = let h = get-within n list x e in omega arith;
+  within_a = let h = slice_get_within list n x e in omega arith;
   within_b = h.within_b;
   matched = subst (λ (l : List Presented). StandsFor l (presented_of (take k other)) given m) (sym (next-flag n list x e f)) h.matched;
   ended_a = λ t. contradicts m.ended_a (wanted-open-a m w) t;
@@ -116,7 +94,7 @@ passed-on A list other n k given m x w e f h = record {
 }
 passed-on B list other n k given m x w e f h = record {
   within_a = h.within_a;
-  within_b = let h = get-within n list x e in omega arith;
+  within_b = let h = slice_get_within list n x e in omega arith;
   matched = subst (λ (l : List Presented). StandsFor (presented_of (take k other)) l given m) (sym (next-flag n list x e f)) h.matched;
   ended_a = h.ended_a;
   ended_b = λ t. contradicts m.ended_b (wanted-open-b m w) t;
@@ -152,10 +130,6 @@ hands-on which list other n k given m None true hl ho w e h = no-more which list
 hands-on which list other n k given m None false hl ho w e h = no-more which list other n k given m h
 
 -- ---- a side that is still wanted
-
-lacks-some : {P : Type 0} (e : Bool) (b : Presented) → lacks e (Some b) ≡ true → P
-lacks-some true b h = absurd (cc)
-lacks-some false b h = absurd (cc)
 
 gives-no : {P : Type 0} (which : Which) (batch : Presented) (m : MatchingState) → wanted (given_to which batch m) ≡ Some which → P
 gives-no A batch m h = lacks-some m.ended_a batch (wants-a (given_to A batch m) h)

@@ -1,6 +1,6 @@
 -- A listener shows at most as many items as it was given records. The batches that a listener presents are in order.
-use Rattle.std.proofs.Common.{◌≡◌, ℕ, zero, suc, ◌^◌, ◌≤◌, Bool, true, false, inl, inr, ℤ, ◌≤ℤ◌, ◌<ℤ◌, List, [], ◌∷◌, ◌++◌, length, map, fold, Some, None, Result, Ok, Err, refl, sym, ap, ◌∙◌, subst, arith}
-use Rattle.std.specs.Prelude.{if◌then◌else◌, int_lt, slice_get, option_and_then}
+use Rattle.std.proofs.Common.{◌≡◌, ℕ, zero, suc, ◌^◌, ◌≤◌, Bool, true, false, inl, inr, ℤ, ◌≤ℤ◌, ◌<ℤ◌, List, [], ◌∷◌, length, map, fold, Some, None, Result, Ok, Err, refl, sym, ap, ◌∙◌, subst, arith}
+use Rattle.std.specs.Prelude.{IfOk, if◌then◌else◌, int_lt, slice_get, option_and_then}
 use Rattle.std.specs.List.{AllByRecursion, list_any}
 use Rattle.std.proofs.lemmas.Int.{ints}
 use Rattle.clock_track.specs.Rows.{clock_spot}
@@ -25,26 +25,37 @@ use Rattle.listener.proofs.Due.{due_first}
 use Rattle.listener.proofs.Few.{few}
 use Rattle.listener.proofs.TrueList.{batches_are}
 use Rattle.listener_pair.specs.Merged.{IsInOrder}
+use Rattle.listener_pair.proofs.Sorting.{all-join}
 use Rattle.capture_pair.specs.state.Sides.{IsHeard}
 use Rattle.capture_pair.proofs.Handing.{presented-append}
 use Rattle.capture_pair.proofs.Joined.{order-front}
+
+-- ---- what holds for all accepted items
+
+pub accepted-all : (P : Accepted → Type 0) (r : Result Accepted Reason) → IfOk r P → AllByRecursion P (accepted_by (Some r))
+accepted-all P (Ok a) h = (h, tt)
+accepted-all P (Err reason) h = tt
+
+fold-all : (P : Accepted → Type 0) (xs ys : List Accepted) → AllByRecursion P xs → AllByRecursion P ys → AllByRecursion P (fold put_behind ys xs)
+fold-all P [] ys p q = q
+fold-all P (x ∷ xs) ys p q = fold-all P xs (put_behind ys x) p.1 (all-put_behind P ys x q p.0)
+
+pub sorted-all : (P : Accepted → Type 0) (xs : List Accepted) → AllByRecursion P xs → AllByRecursion P (by_instant xs)
+unfolding by_instant
+sorted-all P xs p = fold-all P xs [] p tt
 
 -- ---- the instant of an accepted item is the first instant of its batch
 
 abbrev pub Timely : Accepted → Type 0
 Timely a = a.instant ≡ first_instant a.batch
 
-abbrev OkTimely : Result Accepted Reason → Type 0
-OkTimely (Ok a) = Timely a
-OkTimely (Err reason) = Unit {0}
-
-decided-timely : (late repeat full : Bool) (place : ℕ) (batch : Presented) → OkTimely (decided late repeat full place batch)
+decided-timely : (late repeat full : Bool) (place : ℕ) (batch : Presented) → IfOk (decided late repeat full place batch) Timely
 decided-timely true repeat full place batch = tt
 decided-timely false true full place batch = tt
 decided-timely false false true place batch = tt
 decided-timely false false false place batch = refl
 
-verdict-timely : (plan : SchedulePlan) (now : ℤ) (earlier : List Accepted) (place : ℕ) (r : Result Presented Reason) → OkTimely (verdict plan now earlier place r)
+verdict-timely : (plan : SchedulePlan) (now : ℤ) (earlier : List Accepted) (place : ℕ) (r : Result Presented Reason) → IfOk (verdict plan now earlier place r) Timely
 unfolding verdict
 verdict-timely plan now earlier place (Err reason) = tt
 verdict-timely plan now earlier place (Ok batch) =
@@ -52,10 +63,6 @@ verdict-timely plan now earlier place (Ok batch) =
 
 abbrev pub AllTimely : List Accepted → Type 0
 AllTimely xs = AllByRecursion Timely xs
-
-taken-timely : (r : Result Accepted Reason) → OkTimely r → AllTimely (accepted_by (Some r))
-taken-timely (Ok a) h = (h, tt)
-taken-timely (Err reason) h = tt
 
 verdict-at-timely : (clock : Clock) (plan : SchedulePlan) (entries : List Entry) (n : ℕ) (earlier : List Accepted) → AllTimely (accepted_by (verdict_at clock plan entries n earlier))
 unfolding verdict_at
@@ -68,30 +75,18 @@ verdict-at-timely clock plan entries n earlier =
     of : (e : Entry) → AllTimely (accepted_by (judged clock plan entries n earlier e))
     of (OfItem item) =
         let r = timed clock plan (prefix_of plan entries n) item in
-        taken-timely (verdict plan (now_at entries n) earlier n r) (verdict-timely plan (now_at entries n) earlier n r)
+        accepted-all Timely (verdict plan (now_at entries n) earlier n r) (verdict-timely plan (now_at entries n) earlier n r)
     of (OfClock arrival row) = tt
-
-all-join : (xs ys : List Accepted) → AllTimely xs → AllTimely ys → AllTimely (xs ++ ys)
-all-join [] ys p q = q
-all-join (x ∷ xs) ys p q = (p.0, all-join xs ys p.1 q)
 
 accepted-timely : (clock : Clock) (plan : SchedulePlan) (entries : List Entry) (n : ℕ) → AllTimely (accepted clock plan entries n)
 unfolding accepted
 accepted-timely clock plan entries zero = tt
 accepted-timely clock plan entries (suc n) =
-    all-join (accepted clock plan entries n) (accepted_by (verdict_at clock plan entries n (accepted clock plan entries n))) (accepted-timely clock plan entries n) (verdict-at-timely clock plan entries n (accepted clock plan entries n))
-
-fold-timely : (xs ys : List Accepted) → AllTimely xs → AllTimely ys → AllTimely (fold put_behind ys xs)
-fold-timely [] ys p q = q
-fold-timely (x ∷ xs) ys p q = fold-timely xs (put_behind ys x) p.1 (all-put_behind Timely ys x q p.0)
-
-sorted-timely : (xs : List Accepted) → AllTimely xs → AllTimely (by_instant xs)
-unfolding by_instant
-sorted-timely xs p = fold-timely xs [] p tt
+    all-join Timely (accepted clock plan entries n) (accepted_by (verdict_at clock plan entries n (accepted clock plan entries n))) (accepted-timely clock plan entries n) (verdict-at-timely clock plan entries n (accepted clock plan entries n))
 
 pub presented-timely : (clock : Clock) (plan : SchedulePlan) (entries : List Entry) → AllTimely (presented (given clock plan entries))
 presented-timely clock plan entries =
-    subst AllTimely (sym (accepted-presented clock plan entries)) (sorted-timely (accepted clock plan entries (length entries)) (accepted-timely clock plan entries (length entries)))
+    subst AllTimely (sym (accepted-presented clock plan entries)) (sorted-all Timely (accepted clock plan entries (length entries)) (accepted-timely clock plan entries (length entries)))
 
 -- ---- if item `a` is before item `b`, the batch of `a` does not begin after the batch of `b`
 

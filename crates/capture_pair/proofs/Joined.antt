@@ -15,40 +15,11 @@ use Rattle.listener_pair.specs.Merged.{IsInOrder, Sided, all_of, by_instant, is_
 use Rattle.listener_pair.specs.Differences.{differences}
 use Rattle.listener_pair.specs.Matching.{EndsOn, IsIdle, IsSorted, MatchingState, MayPrecede, StandsFor, batches_of, known_of, lacks, nexts, of_side, wanted}
 use Rattle.listener_pair.proofs.Counting.{differences-front}
-use Rattle.listener_pair.proofs.Known.{known-cons, known-nil, settled-a, settled-b}
-use Rattle.listener_pair.proofs.Sorting.{all-join, all-left, all-right, all-weaker, batches-append, merged-is}
+use Rattle.listener_pair.proofs.Known.{known-cons, known-here, known-nil, settled-a, settled-b, settled-more}
+use Rattle.listener_pair.proofs.Sorting.{all-by, all-join, all-left, all-put, all-two, all-weaker, batches-append, by-cons, by-nil, le-of, lt-le, lt-of, merged-def, merged-is, same-side, sorted-cross, sorted-front, sorted-join}
 use Rattle.listener_pair.proofs.Standing.{known-is, lacks-none, wants-a, wants-b}
 
--- ---- what holds for all elements of a list
-
-all-two : {T : Type 0} (P Q R : T → Type 0) → ((x : T) → P x → Q x → R x) → (xs : List T) → AllByRecursion P xs → AllByRecursion Q xs → AllByRecursion R xs
-all-two P Q R w [] p q = tt
-all-two P Q R w (x ∷ xs) p q = (w x p.0 q.0, all-two P Q R w xs p.1 q.1)
-
 -- ---- the merged list of two lists in order
-
-by-nil : by_instant [] ≡ []
-unfolding by_instant
-by-nil = refl
-
-by-cons : (x : Sided) (rest : List Sided) → by_instant (x ∷ rest) ≡ put_before x (by_instant rest)
-unfolding by_instant
-by-cons x rest = refl
-
-merged-def : (xs ys : List Presented) → merged xs ys ≡ by_instant (all_of A xs ++ all_of B ys)
-unfolding merged
-merged-def xs ys = refl
-
-all-put : (P : Sided → Type 0) (x : Sided) (ys : List Sided) → P x → AllByRecursion P ys → AllByRecursion P (put_before x ys)
-all-put P x [] p q = (p, tt)
-all-put P x (y ∷ ys) p q = elim (int_lt (first_instant y.batch) (first_instant x.batch)) as (λ v. AllByRecursion P (cond v (y ∷ put_before x ys) (x ∷ y ∷ ys))) [
-  | true ↦ (q.0, all-put P x ys p q.1)
-  | false ↦ (p, q)
-]
-
-all-by : (P : Sided → Type 0) (xs : List Sided) → AllByRecursion P xs → AllByRecursion P (by_instant xs)
-all-by P [] h = subst (AllByRecursion P) (sym by-nil) tt
-all-by P (x ∷ xs) h = subst (AllByRecursion P) (sym (by-cons x xs)) (all-put P x (by_instant xs) h.0 (all-by P xs h.1))
 
 all-side : (P : Sided → Type 0) (s : Which) (xs : List Presented) → AllByRecursion (λ b. P (of_side s b)) xs → AllByRecursion P (all_of s xs)
 all-side P s [] h = tt
@@ -56,15 +27,6 @@ all-side P s (x ∷ xs) h = (h.0, all-side P s xs h.1)
 
 pub all-merged : (P : Sided → Type 0) (xs ys : List Presented) → AllByRecursion (λ b. P (of_side A b)) xs → AllByRecursion (λ b. P (of_side B b)) ys → AllByRecursion P (merged xs ys)
 all-merged P xs ys p q = subst (AllByRecursion P) (sym (merged-def xs ys)) (all-by P (all_of A xs ++ all_of B ys) (all-join P (all_of A xs) (all_of B ys) (all-side P A xs p) (all-side P B ys q)))
-
-lt-of : (x y : ℤ) → int_lt x y ≡ true → x <ℤ y
-lt-of x y h = grind (arith, ints)
-
-le-of : (x y : ℤ) → int_lt x y ≡ false → y ≤ℤ x
-le-of x y h = grind (arith, ints)
-
-lt-le : (x y : ℤ) → x <ℤ y → x ≤ℤ y
-lt-le x y h = omega (arith, ints)
 
 le-le : (x y z : ℤ) → x ≤ℤ y → y ≤ℤ z → x ≤ℤ z
 le-le x y z h k = omega (arith, ints)
@@ -154,18 +116,6 @@ merges xs ys p q = subst (Merges xs ys) (sym (merged-def xs ys)) (merges-by xs y
 
 -- ---- one list after the other
 
-sorted-join : (xs ys : List Sided) → IsSorted xs → IsSorted ys → AllByRecursion (λ x. AllByRecursion (MayPrecede x) ys) xs → IsSorted (xs ++ ys)
-sorted-join [] ys sx sy h = sy
-sorted-join (x ∷ xs) ys sx sy h = (all-join (MayPrecede x) xs ys sx.0 h.0, sorted-join xs ys sx.1 sy h.1)
-
-sorted-front : (xs ys : List Sided) → IsSorted (xs ++ ys) → IsSorted xs
-sorted-front [] ys h = tt
-sorted-front (x ∷ xs) ys h = (all-left (MayPrecede x) xs ys h.0, sorted-front xs ys h.1)
-
-sorted-cross : (xs ys : List Sided) → IsSorted (xs ++ ys) → AllByRecursion (λ x. AllByRecursion (MayPrecede x) ys) xs
-sorted-cross [] ys h = tt
-sorted-cross (x ∷ xs) ys h = (all-right (MayPrecede x) xs ys h.0, sorted-cross xs ys h.1)
-
 pub order-back : (xs ys : List Presented) → IsInOrder (xs ++ ys) → IsInOrder ys
 order-back [] ys h = h
 order-back (x ∷ xs) ys h = order-back xs ys h.1
@@ -183,10 +133,6 @@ precede-more s x z y p le = record {
   instants = let h = p.instants in omega (arith, ints);
   sides = λ xb ya. let h = p.sides xb ya in omega (arith, ints);
 }
-
-same-side : (s : Which) (z b : Presented) → first_instant z ≤ℤ first_instant b → MayPrecede (of_side s z) (of_side s b)
-same-side A z b le = record { instants = le; sides = λ p q. absurd (cc) }
-same-side B z b le = record { instants = le; sides = λ p q. absurd (cc) }
 
 -- If the batches in the list `rest` are of side `s`, each batch in the list `done` may precede each batch in `rest` in
 -- merged order.
@@ -228,15 +174,6 @@ merged-after done ra rb sorted oa ob ca cb =
 
 -- ---- what is known
 
-or-more : (e b r : Bool) → (e || r) ≡ true → (e || (b || r)) ≡ true
-or-more true b r h = refl
-or-more false true r h = refl
-or-more false false r h = h
-
-settled-more : (e : Bool) (s : Which) (xs ys : List Sided) → is_settled e s ys ≡ true → is_settled e s (xs ++ ys) ≡ true
-settled-more e s [] ys h = h
-settled-more e s (x ∷ xs) ys h = or-more e (is_side s x.side) (list_any (λ y. is_side s y.side) (xs ++ ys)) (settled-more e s xs ys h)
-
 or-true : (e : Bool) → (e || true) ≡ true
 or-true true = refl
 or-true false = refl
@@ -266,12 +203,6 @@ covered-tail e s x done rest (inl h) = inl h
 covered-tail e s x done rest (inr (inl none)) = absurd (cc)
 covered-tail e s x done rest (inr (inr ([], z, eq))) = inr (inl (cc))
 covered-tail e s x done rest (inr (inr (y ∷ front, z, eq))) = inr (inr (front, z, (cc)))
-
-known-here : (ea eb : Bool) (x : Sided) (rest : List Sided) → is_settled ea A (x ∷ rest) ≡ true → is_settled eb B (x ∷ rest) ≡ true → known ea eb (x ∷ rest) ≡ x ∷ known ea eb rest
-known-here ea eb x rest a b =
-    known-cons ea eb x rest
-    ∙ ap (λ v. cond (v && is_settled eb B (x ∷ rest)) (x ∷ known ea eb rest) []) a
-    ∙ ap (λ v. cond v (x ∷ known ea eb rest) []) b
 
 pub known-through : (ea eb : Bool) (done rest : List Sided) → Covered ea A done rest → Covered eb B done rest → known ea eb (done ++ rest) ≡ done ++ known ea eb rest
 known-through ea eb [] rest a b = refl

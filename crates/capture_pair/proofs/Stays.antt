@@ -6,6 +6,7 @@ use Rattle.std.specs.Prelude.{slice_get}
 use Rattle.std.specs.List.{list_any}
 use mathlib.Core.List.{IsPrefix}
 use Rattle.pcap_frames.specs.Capture.{Record}
+use Rattle.std.proofs.Math.Seq.{take-append_seam}
 use Rattle.sample_schedule.specs.Batches.{Presented}
 use Rattle.sample_schedule.specs.declared.shown.Shown.{Shown}
 use Rattle.listener.specs.declared.plan.ListenPlan.{ListenPlan}
@@ -23,7 +24,7 @@ use Rattle.listener_pair.specs.Differences.{differences}
 use Rattle.listener_pair.specs.Matching.{MatchingState, batches_of, wanted}
 use Rattle.listener_pair.proofs.Counting.{differences-front}
 use Rattle.listener_pair.proofs.PairLaws.{known-all as known-both}
-use Rattle.listener_pair.proofs.Standing.{lacks-none, lacks-open, wants-a, wants-b}
+use Rattle.listener_pair.proofs.Standing.{contradicts, lacks-none, lacks-open, wants-a, wants-b}
 use Rattle.capture_pair.specs.Pairing.{Continues, EndsAreClosed, HavePlan, Matches, PairState, StandsFor, known_by, presented_by, wanted_by}
 use Rattle.capture_pair.proofs.Filling.{none-left}
 use Rattle.capture_pair.proofs.Handing.{presented-append, presented-split}
@@ -41,14 +42,11 @@ pub record Longer (xs ys : List Presented) (ended : Bool) : Type 0 where
 longer-same : (xs ys : List Presented) (ended : Bool) → ys ≡ xs → Longer xs ys ended
 longer-same xs ys ended e = record { more = []; split = e ∙ sym (append-nil xs); none = λ t. refl }
 
-never-both : {P : Type 0} (e : Bool) → e ≡ false → e ≡ true → P
-never-both e f t = let x : false ≡ true = sym f ∙ t in absurd (cc)
-
 longer-open : (xs ys : List Shown) (ended : Bool) → ended ≡ false → IsPrefix xs ys → Longer (presented_of xs) (presented_of ys) ended
 longer-open xs ys ended opened first = record {
   more = presented_of first.0;
   split = ap presented_of (sym first.1) ∙ presented-append xs first.0;
-  none = λ t. never-both ended opened t;
+  none = λ t. contradicts ended opened t;
 }
 
 -- the items that are due after `records` are a prefix of the items that are shown of `records ++ more`
@@ -145,14 +143,10 @@ further-known list other n k given xs ys ended_a ended_b m h f =
     ∙ known-all (presented_of (take n list)) (presented_of (take k other)) (left-of list n f.more_a) (left-of other k f.more_b) given ended_a ended_b m
     h.matched (further-goes list other n k given xs ys ended_a ended_b m h f)
 
-take-front : {T : Type 0} (xs more : List T) → take (length xs) (xs ++ more) ≡ xs
-take-front [] more = refl
-take-front {T} (x ∷ xs) more = ap {B = List T} (λ l. x ∷ l) (take-front xs more)
-
 front-take : (done more : List Sided) (given : ℕ) → given ≡ length (differences done) → take given (differences (done ++ more)) ≡ differences done
 front-take done more given e =
     let front = differences-front done more in
-    ap (λ (l : List Difference). take given l) front.1 ∙ ap (λ n. take n (differences done ++ front.0)) e ∙ take-front (differences done) front.0
+    ap (λ (l : List Difference). take given l) front.1 ∙ ap (λ n. take n (differences done ++ front.0)) e ∙ take-append_seam (differences done) front.0
 
 front-within : (done more : List Sided) (given : ℕ) → given ≡ length (differences done) → given ≤ length (differences (done ++ more))
 front-within done more given e =
@@ -339,7 +333,7 @@ fault-a plan records others more given pair s plans ends w opened none =
       order_b = shown-in-order plan (others ++ more);
       none_a = λ t. refl;
       none_b = λ t. b.none (ends.b t);
-      over_a = λ t. never-both m.ended_a (lacks-open m.ended_a m.next_a (wants-a m w)) t;
+      over_a = λ t. contradicts m.ended_a (lacks-open m.ended_a m.next_a (wants-a m w)) t;
       over_b = λ t. refl;
     } in
     known-done-a list other s.shown_a s.shown_b given (presented_by pair.a records) (presented_by pair.b others)
@@ -369,7 +363,7 @@ fault-b plan records others more given pair s plans ends w opened none =
       none_a = λ t. a.none (ends.a t);
       none_b = λ t. refl;
       over_a = λ t. refl;
-      over_b = λ t. never-both m.ended_b (lacks-open m.ended_b m.next_b (wants-b m w)) t;
+      over_b = λ t. contradicts m.ended_b (lacks-open m.ended_b m.next_b (wants-b m w)) t;
     } in
     known-done-b list other s.shown_a s.shown_b given (presented_by pair.a records) (presented_by pair.b others)
     (is_closed pair.a) (is_closed pair.b) m s.matches (further-now records others pair ends) w (s.filled_b w) refl opened

@@ -24,11 +24,11 @@ or-more true b r h = refl
 or-more false true r h = refl
 or-more false false r h = h
 
-settled-more : (e : Bool) (s : Which) (xs ys : List Sided) → is_settled e s ys ≡ true → is_settled e s (xs ++ ys) ≡ true
+pub settled-more : (e : Bool) (s : Which) (xs ys : List Sided) → is_settled e s ys ≡ true → is_settled e s (xs ++ ys) ≡ true
 settled-more e s [] ys h = h
 settled-more e s (x ∷ xs) ys h = or-more e (is_side s x.side) (list_any (λ y. is_side s y.side) (xs ++ ys)) (settled-more e s xs ys h)
 
-known-here : (ea eb : Bool) (x : Sided) (rest : List Sided) → is_settled ea A (x ∷ rest) ≡ true → is_settled eb B (x ∷ rest) ≡ true → known ea eb (x ∷ rest) ≡ x ∷ known ea eb rest
+pub known-here : (ea eb : Bool) (x : Sided) (rest : List Sided) → is_settled ea A (x ∷ rest) ≡ true → is_settled eb B (x ∷ rest) ≡ true → known ea eb (x ∷ rest) ≡ x ∷ known ea eb rest
 known-here ea eb x rest a b =
     known-cons ea eb x rest
     ∙ ap (λ v. cond (v && is_settled eb B (x ∷ rest)) (x ∷ known ea eb rest) []) a

@@ -2,7 +2,7 @@
 use Rattle.std.proofs.Common.{◌≡◌, ℕ, suc, ◌+◌, ◌<◌, ◌≤◌, Bool, true, false, cond, ◌&&◌, ◌||◌, ◌⊎◌, inl, inr, List, [], ◌∷◌, ◌++◌, length, filter, Option, Some, None, refl, sym, ap, ◌∙◌, subst, arith, length-append}
 use Rattle.std.specs.Prelude.{nat_le, not, ◌==◌}
 use Rattle.std.specs.List.{AllByRecursion, find}
-use Rattle.std.proofs.lemmas.Bool.Decides.{Decides-eqb, nat_tests}
+use Rattle.std.proofs.lemmas.Bool.Decides.{Decides-eqb}
 use Rattle.std.proofs.lemmas.List.Elements.{filter-append}
 use Rattle.listener_pair.specs.declared.difference.Which.TheVariants.{A, B}
 use Rattle.listener_pair.specs.declared.placed.Placed.{Placed}
@@ -11,7 +11,7 @@ use Rattle.listener_pair.specs.Merged.{Sided, is_settled, is_side, known}
 use Rattle.listener_pair.specs.Pairs.{Paired, at_place, fits, left_by, may_pair, pair_by, pairs, pairs_from, partner_of, unpaired_with, without_first}
 use Rattle.listener_pair.proofs.Known.{known-cons, known-nil}
 use Rattle.listener_pair.proofs.Sorting.{all-join}
-use Rattle.listener_pair.proofs.Windows.{IsAscending, ascending-with, either, fewer, filter-no, find-passes}
+use Rattle.listener_pair.proofs.Windows.{IsAscending, ascending-with, either, fewer, filter-no, find-passes, le-of}
 
 -- ---- the known part
 
@@ -37,9 +37,6 @@ known-front ea eb list = let h = known-prefix ea eb list in (h.0, sym h.1)
 not-true : (b : Bool) → not b ≡ true → b ≡ false
 not-true true h = absurd (cc)
 not-true false h = refl
-
-le-of : (a b : ℕ) → nat_le a b ≡ true → a ≤ b
-le-of a b h = grind (arith, nat_tests)
 
 one : (u v w : Bool) → (u && v && w) ≡ true → u ≡ true
 one true v w h = refl
@@ -108,7 +105,7 @@ pairs-are list = pairs-all 0 [] list (omega arith)
 
 -- ---- at most one pair
 
-eq-yes : (a b : ℕ) → a ≡ b → (a == b) ≡ true
+pub eq-yes : (a b : ℕ) → a ≡ b → (a == b) ≡ true
 eq-yes a b e = (Decides-eqb a b).1 e
 
 eq-no : (a b : ℕ) → (a ≡ b → ⊥) → (a == b) ≡ false

@@ -33,10 +33,10 @@ stays a b n (suc k) w e =
 pub first-stays : (a b : Presented) (n m : ℕ) (w : Way) → n ≤ m → first_way a b n ≡ Some w → first_way a b m ≡ Some w
 first-stays a b n m w le e = subst (λ (l : ℕ). first_way a b l ≡ Some w) (omega arith) (stays a b n (m - n) w e)
 
-same-is : (x y : ℤ) → x ≡ y → same_instant x y ≡ true
+pub same-is : (x y : ℤ) → x ≡ y → same_instant x y ≡ true
 same-is x y e = subst (λ (z : ℤ). same_instant x z ≡ true) e (ap (λ v. cond v (int_le x x) false) (le_true x x (omega (arith, ints))) ∙ le_true x x (omega (arith, ints)))
 
-equal-sample : (a b : Presented) (j : ℕ) → sample_instant a j ≡ sample_instant b j → sample_bytes a j ≡ sample_bytes b j → sample_way a b j ≡ None
+pub equal-sample : (a b : Presented) (j : ℕ) → sample_instant a j ≡ sample_instant b j → sample_bytes a j ≡ sample_bytes b j → sample_way a b j ≡ None
 unfolding sample_way
 equal-sample a b j at bytes =
     ap (λ v. cond v (cond (bytes_eq (sample_bytes a j) (sample_bytes b j)) None (Some (BytesWay j))) (Some (AtWay j (sample_instant a j) (sample_instant b j)))) (same-is (sample_instant a j) (sample_instant b j) at)
@@ -49,11 +49,11 @@ equal-batches a b (suc n) l f c y = first-next a b n (equal-batches a b n l f c 
 
 -- ---- what follows from the comparisons that the code makes
 
-both-left : (u v : Bool) → (u && v) ≡ true → u ≡ true
+pub both-left : (u v : Bool) → (u && v) ≡ true → u ≡ true
 both-left true v h = refl
 both-left false v h = h
 
-both-right : (u v : Bool) → (u && v) ≡ true → v ≡ true
+pub both-right : (u v : Bool) → (u && v) ≡ true → v ≡ true
 both-right true v h = h
 both-right false v h = absurd (cc)
 

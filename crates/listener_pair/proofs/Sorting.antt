@@ -31,35 +31,35 @@ pub all-right : {T : Type 0} (P : T → Type 0) (xs ys : List T) → AllByRecurs
 all-right P [] ys p = p
 all-right P (x ∷ xs) ys p = all-right P xs ys p.1
 
-all-two : {T : Type 0} (P Q R : T → Type 0) → ((x : T) → P x → Q x → R x) → (xs : List T) → AllByRecursion P xs → AllByRecursion Q xs → AllByRecursion R xs
+pub all-two : {T : Type 0} (P Q R : T → Type 0) → ((x : T) → P x → Q x → R x) → (xs : List T) → AllByRecursion P xs → AllByRecursion Q xs → AllByRecursion R xs
 all-two P Q R w [] p q = tt
 all-two P Q R w (x ∷ xs) p q = (w x p.0 q.0, all-two P Q R w xs p.1 q.1)
 
 -- ---- sorting
 
-by-nil : by_instant [] ≡ []
+pub by-nil : by_instant [] ≡ []
 unfolding by_instant
 by-nil = refl
 
-by-cons : (x : Sided) (rest : List Sided) → by_instant (x ∷ rest) ≡ put_before x (by_instant rest)
+pub by-cons : (x : Sided) (rest : List Sided) → by_instant (x ∷ rest) ≡ put_before x (by_instant rest)
 unfolding by_instant
 by-cons x rest = refl
 
-merged-def : (xs ys : List Presented) → merged xs ys ≡ by_instant (all_of A xs ++ all_of B ys)
+pub merged-def : (xs ys : List Presented) → merged xs ys ≡ by_instant (all_of A xs ++ all_of B ys)
 unfolding merged
 merged-def xs ys = refl
 
 abbrev NotBefore : Sided → Sided → Type 0
 NotBefore x y = int_lt (first_instant y.batch) (first_instant x.batch) ≡ false
 
-all-put : (P : Sided → Type 0) (x : Sided) (ys : List Sided) → P x → AllByRecursion P ys → AllByRecursion P (put_before x ys)
+pub all-put : (P : Sided → Type 0) (x : Sided) (ys : List Sided) → P x → AllByRecursion P ys → AllByRecursion P (put_before x ys)
 all-put P x [] p q = (p, tt)
 all-put P x (y ∷ ys) p q = elim (int_lt (first_instant y.batch) (first_instant x.batch)) as (λ v. AllByRecursion P (cond v (y ∷ put_before x ys) (x ∷ y ∷ ys))) [
   | true ↦ (q.0, all-put P x ys p q.1)
   | false ↦ (p, q)
 ]
 
-all-by : (P : Sided → Type 0) (xs : List Sided) → AllByRecursion P xs → AllByRecursion P (by_instant xs)
+pub all-by : (P : Sided → Type 0) (xs : List Sided) → AllByRecursion P xs → AllByRecursion P (by_instant xs)
 all-by P [] h = subst (AllByRecursion P) (sym by-nil) tt
 all-by P (x ∷ xs) h = subst (AllByRecursion P) (sym (by-cons x xs)) (all-put P x (by_instant xs) h.0 (all-by P xs h.1))
 
@@ -84,7 +84,7 @@ later-at : (b : Presented) (s : Which) (c : Presented) (rest : List Sided) → M
 later-at b A c rest p h = (p.sides refl refl, h)
 later-at b B c rest p h = h
 
-later : (b : Presented) (rest : List Sided) → AllByRecursion (MayPrecede (of_side B b)) rest → AllByRecursion (λ a. first_instant b <ℤ first_instant a) (batches_of A rest)
+pub later : (b : Presented) (rest : List Sided) → AllByRecursion (MayPrecede (of_side B b)) rest → AllByRecursion (λ a. first_instant b <ℤ first_instant a) (batches_of A rest)
 later b [] h = tt
 later b (y ∷ rest) h = later-at b y.side y.batch rest h.0 (later b rest h.1)
 
@@ -115,25 +115,25 @@ merged-is (x ∷ rest) h = merged-cons x.side x.batch rest h.0 (merged-is rest h
 
 -- ---- sorted lists, one after the other
 
-sorted-join : (xs ys : List Sided) → IsSorted xs → IsSorted ys → AllByRecursion (λ x. AllByRecursion (MayPrecede x) ys) xs → IsSorted (xs ++ ys)
+pub sorted-join : (xs ys : List Sided) → IsSorted xs → IsSorted ys → AllByRecursion (λ x. AllByRecursion (MayPrecede x) ys) xs → IsSorted (xs ++ ys)
 sorted-join [] ys sx sy h = sy
 sorted-join (x ∷ xs) ys sx sy h = (all-join (MayPrecede x) xs ys sx.0 h.0, sorted-join xs ys sx.1 sy h.1)
 
-sorted-front : (xs ys : List Sided) → IsSorted (xs ++ ys) → IsSorted xs
+pub sorted-front : (xs ys : List Sided) → IsSorted (xs ++ ys) → IsSorted xs
 sorted-front [] ys h = tt
 sorted-front (x ∷ xs) ys h = (all-left (MayPrecede x) xs ys h.0, sorted-front xs ys h.1)
 
-sorted-cross : (xs ys : List Sided) → IsSorted (xs ++ ys) → AllByRecursion (λ x. AllByRecursion (MayPrecede x) ys) xs
+pub sorted-cross : (xs ys : List Sided) → IsSorted (xs ++ ys) → AllByRecursion (λ x. AllByRecursion (MayPrecede x) ys) xs
 sorted-cross [] ys h = tt
 sorted-cross (x ∷ xs) ys h = (all-right (MayPrecede x) xs ys h.0, sorted-cross xs ys h.1)
 
-lt-le : (x y : ℤ) → x <ℤ y → x ≤ℤ y
+pub lt-le : (x y : ℤ) → x <ℤ y → x ≤ℤ y
 lt-le x y h = omega (arith, ints)
 
-lt-of : (x y : ℤ) → int_lt x y ≡ true → x <ℤ y
+pub lt-of : (x y : ℤ) → int_lt x y ≡ true → x <ℤ y
 lt-of x y h = grind (arith, ints)
 
-le-of : (x y : ℤ) → int_lt x y ≡ false → y ≤ℤ x
+pub le-of : (x y : ℤ) → int_lt x y ≡ false → y ≤ℤ x
 le-of x y h = grind (arith, ints)
 
 both-sorted : (a b : Presented) (v : Bool) → int_lt (first_instant b) (first_instant a) ≡ v → IsSorted (cond v (of_side B b ∷ of_side A a ∷ []) (of_side A a ∷ of_side B b ∷ []))
@@ -171,7 +171,7 @@ precede-more x z y p le same = record {
   sides = λ xb ya. let h = p.sides xb (same ∙ ya) in omega (arith, ints);
 }
 
-same-side : (s : Which) (z b : Presented) → first_instant z ≤ℤ first_instant b → MayPrecede (of_side s z) (of_side s b)
+pub same-side : (s : Which) (z b : Presented) → first_instant z ≤ℤ first_instant b → MayPrecede (of_side s z) (of_side s b)
 same-side A z b le = record { instants = le; sides = λ p q. absurd (cc) }
 same-side B z b le = record { instants = le; sides = λ p q. absurd (cc) }
 

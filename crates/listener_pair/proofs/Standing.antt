@@ -31,7 +31,7 @@ lacks-none true n h = absurd (cc)
 lacks-none false None h = refl
 lacks-none false (Some b) h = absurd (cc)
 
-lacks-some : {P : Type 0} (e : Bool) (b : Presented) → lacks e (Some b) ≡ true → P
+pub lacks-some : {P : Type 0} (e : Bool) (b : Presented) → lacks e (Some b) ≡ true → P
 lacks-some true b h = absurd (cc)
 lacks-some false b h = absurd (cc)
 
@@ -191,7 +191,7 @@ wants-none-at false false o s h = (refl, refl, h)
 wants-none : (m : MatchingState) (s : Which) → next_side m ≡ Some s → (lacks m.ended_a m.next_a ≡ false) × (lacks m.ended_b m.next_b ≡ false) × (first_side m.next_a m.next_b ≡ Some s)
 wants-none m s h = wants-none-at (lacks m.ended_a m.next_a) (lacks m.ended_b m.next_b) (first_side m.next_a m.next_b) s h
 
-sides-length : (l : List Sided) → length (batches_of A l) + length (batches_of B l) ≡ length l
+pub sides-length : (l : List Sided) → length (batches_of A l) + length (batches_of B l) ≡ length l
 sides-length [] = refl
 sides-length (x ∷ l) = side-at x.side x.batch l (sides-length l)
   where
@@ -233,7 +233,7 @@ enters-done done s b next own other own_then other_then pair is_own is_other is_
 risen-place : (n k : ℕ) → n ≡ risen k → k < 2 ^ 63 → n ≡ suc k
 risen-place n k e h = omega arith
 
-more-done : (done : List Sided) (x : Sided) → length (done ++ x ∷ []) ≡ suc (length done)
+pub more-done : (done : List Sided) (x : Sided) → length (done ++ x ∷ []) ≡ suc (length done)
 more-done done x = length-append done (x ∷ []) ∙ (omega arith)
 
 given-more : (given : ℕ) (done : List Sided) (s : Which) (b : Presented) (pair : Option Paired) → given ≡ length (differences done) → pair ≡ option_map (paired_with (at_place (length done) (of_side s b))) (partner_of (at_place (length done) (of_side s b)) (unpaired done))
@@ -278,7 +278,7 @@ shows xs ys given k new old_done x (Some d) s e g ds =
 side-back : {T : Type 0} (done more : List T) (x : T) → done ++ x ∷ more ≡ (done ++ x ∷ []) ++ more
 side-back done more x = sym (append_assoc done (x ∷ []) more)
 
-contradicts : {P : Type 0} (u : Bool) → u ≡ false → u ≡ true → P
+pub contradicts : {P : Type 0} (u : Bool) → u ≡ false → u ≡ true → P
 contradicts u f t = let e = sym f ∙ t in absurd (cc)
 
 pub steps-a : (xs ys : List Presented) (given : ℕ) (old new : MatchingState) (b : Presented) (pair : Option Paired) → StandsFor xs ys given old → next_side old ≡ Some A → next_of A old ≡ Some b → Steps A b old new pair → Advances xs ys given old new (difference_by_pair pair)

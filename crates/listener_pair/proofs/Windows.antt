@@ -61,7 +61,7 @@ ascending-with x ys h = ascending-left x ys (find (may_pair x) ys) h
 pub le-yes : (a b : ℕ) → a ≤ b → nat_le a b ≡ true
 le-yes a b h = grind (arith, nat_tests)
 
-le-of : (a b : ℕ) → nat_le a b ≡ true → a ≤ b
+pub le-of : (a b : ℕ) → nat_le a b ≡ true → a ≤ b
 le-of a b h = grind (arith, nat_tests)
 
 pub either : (b : Bool) → (b ≡ true) ⊎ (b ≡ false)

@@ -1,12 +1,9 @@
 -- Two captures of one talker never differ.
 use Rattle.std.proofs.Common.{◌≡◌, ℕ, zero, suc, ◌*◌, ◌%◌, ◌≤◌, Bool, true, false, cond, ◌&&◌, ◌||◌, ◌⊎◌, inl, inr, ℤ, ◌-ℤ◌, List, [], ◌∷◌, ◌++◌, Option, Some, None, refl, sym, ap, ◌∙◌, subst, arith, mul-le-mul_left}
-use Rattle.std.specs.Prelude.{◌==◌, nat_le, unsigned_abs, option_map}
+use Rattle.std.specs.Prelude.{◌==◌, unsigned_abs, option_map}
 use Rattle.std.specs.List.{AllByRecursion, cons_option, filter_map, find}
-use Rattle.std.specs.Str.{bytes_eq}
-use Rattle.std.proofs.lemmas.Bool.{cases_lt, eqb-true}
-use Rattle.std.proofs.lemmas.Bool.Decides.{nat_tests}
+use Rattle.std.proofs.lemmas.Bool.{eqb-true}
 use Rattle.std.proofs.lemmas.Int.{ints}
-use Rattle.std.proofs.lemmas.Slice.Eq.{bytes_eq-Decides}
 use Rattle.pcap_frames.specs.Capture.{Record}
 use Rattle.stream_journal.specs.Conforming.{Conforms}
 use Rattle.stream_journal.specs.Delivered.{IsAudioKind}
@@ -14,14 +11,13 @@ use Rattle.stream_journal.specs.Journal.{Am824, DenseAaf, H264, IsAt, Kind, Spar
 use Rattle.stream_journal.specs.Near.{IsNear}
 use Rattle.stream_journal.proofs.NearPackets.{near_packets}
 use Rattle.packet_journal.specs.Packets.{PacketJournal}
-use Rattle.sample_schedule.specs.Batches.{Presented, is_unit, sample_instant}
+use Rattle.sample_schedule.specs.Batches.{Presented, is_unit}
 use Rattle.sample_schedule.specs.Verdicts.{first_instant, same_instant}
 use Rattle.listener.specs.declared.plan.ListenPlan.{ListenPlan}
 use Rattle.listener.specs.Heard.{shown_of}
 use Rattle.listener.specs.Laws.{AreSame, HearsTalker, IsOfPacket, by_clock, presented_of, sample_count}
 use Rattle.listener.proofs.TrueOnce.{first_at, one_packet, same_samples}
 use Rattle.listener_pair.specs.declared.difference.Difference.{Difference}
-use Rattle.listener_pair.specs.declared.difference.Way.TheVariants.{At as AtWay, Bytes as BytesWay}
 use Rattle.listener_pair.specs.declared.difference.Which.{Which}
 use Rattle.listener_pair.specs.declared.difference.Which.TheVariants.{A, B}
 use Rattle.listener_pair.specs.declared.placed.Placed.{Placed}
@@ -29,24 +25,18 @@ use Rattle.listener_pair.specs.Merged.{Sided, merged}
 use Rattle.listener_pair.specs.Pairs.{Paired, are_near, at_place, fits, left_by, may_pair, pair_by, pairs, pairs_from, partner_of, reaches, within_reach, without_first}
 use Rattle.listener_pair.specs.Differences.{difference_by, difference_of, differ_in, differences}
 use Rattle.listener_pair.specs.Laws.{IsPair}
-use Rattle.listener_pair.specs.Ways.{first_way, sample_bytes, sample_way, way_of}
+use Rattle.listener_pair.specs.Ways.{first_way, way_of}
 use Rattle.listener_pair.proofs.PairLaws.{pairs-are}
-use Rattle.listener_pair.proofs.Samples.{first-next, first-none, no-way}
+use Rattle.listener_pair.proofs.Samples.{both-left, both-right, equal-sample, first-next, first-none, no-way}
+use Rattle.listener_pair.proofs.Windows.{le-of}
+use Rattle.listener_pair.proofs.Sorting.{all-join}
 use Rattle.pair_laws.specs.Agreeing.{HasPace, IsOneOf, IsPresentedOfTalker, KeepsPace}
-use Rattle.pair_laws.proofs.Beside.{pairs-cons, pairs-nil, same-same}
+use Rattle.pair_laws.proofs.Beside.{pairs-cons, pairs-nil}
 use Rattle.capture_pair.proofs.Joined.{all-merged}
 use Rattle.pair_laws.proofs.Paces.{presented-of-talker}
+use Rattle.clock_track.proofs.LineFacts.{at_most}
 
 -- ---- equal batches do not differ
-
-same-is : (x y : ℤ) → x ≡ y → same_instant x y ≡ true
-same-is x y e = subst (λ z. same_instant x z ≡ true) e (same-same x)
-
-equal-sample : (a b : Presented) (j : ℕ) → sample_instant a j ≡ sample_instant b j → sample_bytes a j ≡ sample_bytes b j → sample_way a b j ≡ None
-unfolding sample_way
-equal-sample a b j at bytes =
-    ap (λ v. cond v (cond (bytes_eq (sample_bytes a j) (sample_bytes b j)) None (Some (BytesWay j))) (Some (AtWay j (sample_instant a j) (sample_instant b j)))) (same-is (sample_instant a j) (sample_instant b j) at)
-    ∙ ap (λ v. cond v None (Some (BytesWay j))) ((bytes_eq-Decides (sample_bytes a j) (sample_bytes b j)).1 bytes)
 
 same-first-way : (a b : Presented) (n : ℕ) → AreSame a b → n ≤ a.count → first_way a b n ≡ None
 same-first-way a b zero s le = first-none a b
@@ -64,15 +54,6 @@ same-none B x y s t = ap (option_map (differ_in y x)) (same-way y x t)
 
 -- ---- batches within reach are the same packet
 
-le-is : (x y : ℕ) → nat_le x y ≡ true → x ≤ y
-le-is x y h = grind (arith, nat_tests)
-
-cancel : (w x y : ℕ) → 1 ≤ w → w * x ≤ w * y → x ≤ y
-cancel w x y some h = elim (cases_lt y x) [
-  | inl less ↦ let k : w * suc y ≤ w * x = mul-le-mul_left w less in absurd (omega arith)
-  | inr le ↦ le
-]
-
 -- Let a line keep the pace of `rate`. If a time `u` is at most 64 times the duration of `count` samples on this line,
 -- `u` is at most 72 times the nominal duration of these samples.
 paced : (u den count num rate : ℕ) → 1 ≤ den → u * den ≤ 64 * count * num → 8 * (rate * num) ≤ 9000000000 * den → u * rate ≤ 72 * (count * 1000000000)
@@ -80,7 +61,7 @@ paced u den count num rate some near pace =
     let a : (8 * rate) * (u * den) ≤ (8 * rate) * (64 * count * num) = mul-le-mul_left (8 * rate) near in
     let b : (64 * count) * (8 * (rate * num)) ≤ (64 * count) * (9000000000 * den) = mul-le-mul_left (64 * count) pace in
     let c : den * (u * rate) ≤ den * (72 * (count * 1000000000)) = omega arith in
-    cancel den (u * rate) (72 * (count * 1000000000)) some c
+    at_most den (u * rate) (72 * (count * 1000000000)) some c
 
 instant-is : (x y : ℤ) → same_instant x y ≡ true → x ≡ y
 instant-is x y e = grind (arith, ints)
@@ -100,7 +81,7 @@ reach-cases a b h = at (is_unit a) (is_unit b) refl h
 near-audio : (p : PacketJournal) (a b : Presented) → a.count ≡ p.times.count → HasPace p.times.rate a → are_near a b ≡ true → IsNear p.times 72 (first_instant a) (first_instant b)
 near-audio p a b count pace near =
     paced (unsigned_abs (first_instant a -ℤ first_instant b)) a.line.den p.times.count a.line.num p.times.rate pace.some
-    (subst (λ (c : ℕ). unsigned_abs (first_instant a -ℤ first_instant b) * a.line.den ≤ 64 * c * a.line.num) count (le-is (unsigned_abs (first_instant a -ℤ first_instant b) * a.line.den) (64 * a.count * a.line.num) near)) pace.spacing
+    (subst (λ (c : ℕ). unsigned_abs (first_instant a -ℤ first_instant b) * a.line.den ≤ 64 * c * a.line.num) count (le-of (unsigned_abs (first_instant a -ℤ first_instant b) * a.line.den) (64 * a.count * a.line.num) near)) pace.spacing
 
 one-near : (by : Bool) (p : PacketJournal) (n m : ℕ) (a b : Presented) → IsAudioKind p.times.kind → Conforms p.times → IsOfPacket by p n a → IsOfPacket by p m b → n % 256 ≡ m % 256 → IsNear p.times 72 (first_instant a) (first_instant b) → n ≡ m
 one-near by p n m a b heard is x y seq near = near_packets p.times by n m (first_instant a) (first_instant b) is heard x.known y.known seq (first_at by p n a is x) (first_at by p m b is y) near
@@ -123,14 +104,6 @@ one-by-kind (H264 part) by p n m a b e pace is x y seq unit near = let f : true 
 one-in-reach : (by : Bool) (p : PacketJournal) (n m : ℕ) (a b : Presented) → KeepsPace p.times.kind p.times.rate a → Conforms p.times → IsOfPacket by p n a → IsOfPacket by p m b → n % 256 ≡ m % 256 → (first_instant a ≡ first_instant b) ⊎ ((is_unit a ≡ false) × (are_near a b ≡ true)) → n ≡ m
 one-in-reach by p n m a b pace is x y seq (inl e) = one-instant by p n m a b is x y seq e
 one-in-reach by p n m a b pace is x y seq (inr (unit, near)) = one-by-kind p.times.kind by p n m a b refl pace is x y seq unit near
-
-pub both-left : (u v : Bool) → (u && v) ≡ true → u ≡ true
-both-left true v h = refl
-both-left false v h = h
-
-pub both-right : (u v : Bool) → (u && v) ≡ true → v ≡ true
-both-right true v h = h
-both-right false v h = absurd (cc)
 
 fits-seq : (s : Which) (x y : Presented) → fits s x y ≡ true → y.seq ≡ x.seq
 unfolding fits
@@ -164,12 +137,8 @@ without-all Q test (u ∷ us) all = at (test u) (without-all Q test us all.1)
     at true ih = all.1
     at false ih = (all.0, ih)
 
-with-all : (Q : Placed → Type 0) (us : List Placed) (x : Placed) → AllByRecursion Q us → Q x → AllByRecursion Q (us ++ x ∷ [])
-with-all Q [] x all h = (h, tt)
-with-all Q (u ∷ us) x all h = (all.0, with-all Q us x all.1 h)
-
 pub left-all : (Q : Placed → Type 0) (x : Placed) (us : List Placed) (o : Option Placed) → AllByRecursion Q us → Q x → AllByRecursion Q (left_by x us o)
-left-all Q x us None all h = with-all Q us x all h
+left-all Q x us None all h = all-join Q us (x ∷ []) all (h, tt)
 left-all Q x us (Some u) all h = without-all Q (may_pair x) us all
 
 abbrev BothOf : (Presented → Type 0) → Paired → Type 0

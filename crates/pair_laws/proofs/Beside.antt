@@ -1,6 +1,6 @@
 -- A capture compared with itself never differs.
 use Rattle.std.proofs.Common.{◌≡◌, ◌≢◌, ℕ, suc, ◌+◌, ◌*◌, ◌<◌, ◌≤◌, Bool, true, false, cond, ◌&&◌, ◌||◌, not, eqb, ℤ, ◌≤ℤ◌, ◌<ℤ◌, ◌-ℤ◌, pos, List, [], ◌∷◌, ◌++◌, length, map, Option, Some, None, refl, sym, ap, ◌∙◌, subst, arith, append_assoc, length-append}
-use Rattle.std.specs.Prelude.{◌==◌, nat_le, unsigned_abs, option_map}
+use Rattle.std.specs.Prelude.{nat_le, unsigned_abs, option_map}
 use Rattle.std.specs.List.{AllByRecursion, IsDistinct, cons_option, filter_map, find, list_any}
 use Rattle.std.proofs.lemmas.Int.{ints}
 use Rattle.std.proofs.lemmas.List.{length-map}
@@ -18,8 +18,10 @@ use Rattle.listener_pair.specs.Pairs.{Paired, are_near, at_place, fits, left_by,
 use Rattle.listener_pair.specs.Differences.{alone, counts_of, difference_by, difference_of, differences}
 use Rattle.listener_pair.specs.Matching.{IsSorted, MayPrecede, batches_of, of_side}
 use Rattle.listener_pair.proofs.Samples.{equal-batches, no-way}
-use Rattle.listener_pair.proofs.Sorting.{all-left, all-right, all-weaker, batches-append}
+use Rattle.listener_pair.proofs.Sorting.{all-join, all-left, all-right, all-weaker, batches-append, later}
 use Rattle.listener_pair.proofs.Windows.{le-yes}
+use Rattle.listener_pair.proofs.Standing.{more-done, sides-length}
+use Rattle.listener_pair.proofs.PairLaws.{eq-yes}
 use Rattle.pair_laws.specs.Beside.{AreAllTold, AreTold, IsPresentation}
 use Rattle.capture_pair.proofs.Joined.{merges}
 
@@ -45,13 +47,10 @@ within-itself x = at (is_unit x)
     at true = same-same (first_instant x)
     at false = zero-far (first_instant x) x.line.den (64 * x.count * x.line.num)
 
-eqb-same : (n : ℕ) → (n == n) ≡ true
-eqb-same n = grind arith
-
 fits-itself : (s : Which) (x : Presented) → fits s x x ≡ true
 unfolding fits
-fits-itself A x = ap (λ v. v && within_reach x x) (eqb-same x.seq) ∙ within-itself x
-fits-itself B x = ap (λ v. v && within_reach x x) (eqb-same x.seq) ∙ within-itself x
+fits-itself A x = ap (λ v. v && within_reach x x) (eq-yes x.seq x.seq refl) ∙ within-itself x
+fits-itself B x = ap (λ v. v && within_reach x x) (eq-yes x.seq x.seq refl) ∙ within-itself x
 
 -- ---- at most 256 batches have the same first instant
 
@@ -152,14 +151,6 @@ batches-at s t (x ∷ l) h = at s x.side x.batch h.0 (batches-at s t l h.1)
     at B A c e ih = ih
     at B B c e ih = (e, ih)
 
-pub sides-length : (l : List Sided) → length (batches_of A l) + length (batches_of B l) ≡ length l
-sides-length [] = refl
-sides-length (x ∷ l) = at x.side x.batch (sides-length l)
-  where
-    at : (s : Which) (b : Presented) → length (batches_of A l) + length (batches_of B l) ≡ length l → length (batches_of A (of_side s b ∷ l)) + length (batches_of B (of_side s b ∷ l)) ≡ suc (length l)
-    at A b e = omega arith
-    at B b e = omega arith
-
 pub parts : (s : Which) (front mid rest : List Sided) → batches_of s (front ++ (mid ++ rest)) ≡ batches_of s front ++ (batches_of s mid ++ batches_of s rest)
 parts s front mid rest = batches-append s front (mid ++ rest) ∙ ap (λ (l : List Presented). batches_of s front ++ l) (batches-append s mid rest)
 
@@ -251,15 +242,6 @@ pairs-first : (n : ℕ) (x : Presented) (u : Placed) → u.side ≡ A → u.batc
 pairs-first n x u side same near =
     both-true (nat_le n (u.place + 512)) (is_side B u.side) (fits B x u.batch) (le-yes n (u.place + 512) near) (ap (is_side B) side) (ap (fits B x) same ∙ fits-itself B x)
 
-later-at : (b : Presented) (s : Which) (c : Presented) (rest : List Sided) → MayPrecede (of_side B b) (of_side s c) → AllByRecursion (λ a. first_instant b <ℤ first_instant a) (batches_of A rest)
-    → AllByRecursion (λ a. first_instant b <ℤ first_instant a) (batches_of A (of_side s c ∷ rest))
-later-at b A c rest p h = (p.sides refl refl, h)
-later-at b B c rest p h = h
-
-later : (b : Presented) (rest : List Sided) → AllByRecursion (MayPrecede (of_side B b)) rest → AllByRecursion (λ a. first_instant b <ℤ first_instant a) (batches_of A rest)
-later b [] h = tt
-later b (y ∷ rest) h = later-at b y.side y.batch rest h.0 (later b rest h.1)
-
 not-less : {P : Type 0} (x : ℤ) → x <ℤ x → P
 not-less x h = absurd (omega (arith, ints))
 
@@ -269,10 +251,6 @@ none-left (u ∷ us) e = absurd (cc)
 
 all-more : (done : List Sided) (x : Sided) (us : List Placed) → AllByRecursion (IsAt done) us → AllByRecursion (IsAt (done ++ x ∷ [])) us
 all-more done x us h = all-weaker (IsAt done) (IsAt (done ++ x ∷ [])) (λ u k. is-at-more done x u k) us h
-
-all-with : (P : Placed → Type 0) (us : List Placed) (u : Placed) → AllByRecursion P us → P u → AllByRecursion P (us ++ u ∷ [])
-all-with P [] u h p = (p, tt)
-all-with P (v ∷ us) u h p = (h.0, all-with P us u h.1 p)
 
 abbrev BatchesOf : List Placed → List Presented
 BatchesOf us = map (λ (u : Placed). u.batch) us
@@ -290,7 +268,7 @@ comes-a : (done rest : List Sided) (b : Presented) (us : List Placed) → AllByR
 comes-a done rest b us h e go =
     let p = at_place (length done) (of_side A b) in
     same-none (length done) us (of_side A b) rest (none-of-own p us done refl h) refl
-    (go (us ++ p ∷ []) (all-with (IsAt (done ++ of_side A b ∷ [])) us p (all-more done (of_side A b) us h) (record { front = done; back = []; split = refl; place = refl; side = refl }))
+    (go (us ++ p ∷ []) (all-join (IsAt (done ++ of_side A b ∷ [])) us (p ∷ []) (all-more done (of_side A b) us h) (record { front = done; back = []; split = refl; place = refl; side = refl }, tt))
     (batches-with us p (batches_of A rest) ∙ e))
 
 comes-b : (done rest : List Sided) (b : Presented) (us : List Placed) (xs : List Presented) → IsSorted (done ++ of_side B b ∷ rest) → batches_of A (done ++ of_side B b ∷ rest) ≡ xs → batches_of B (done ++ of_side B b ∷ rest) ≡ xs → IsPresentation xs
@@ -306,9 +284,6 @@ comes-b done rest b (u ∷ us) xs sorted ea eb p h e go =
     let x = at_place (length done) (of_side B b) in
     same-some (length done) (u ∷ us) (of_side B b) rest u (ap (λ v. cond v (Some u) (find (may_pair x) us)) yes) same refl
     (subst (λ (l : List Placed). AreSame (suc (length done)) l rest) (sym (ap (λ v. cond v us (u ∷ without_first (may_pair x) us)) yes)) (go us (all-more done (of_side B b) us h.1) more))
-
-longer : (done : List Sided) (x : Sided) → length (done ++ x ∷ []) ≡ suc (length done)
-longer done x = length-append done (x ∷ []) ∙ (omega arith)
 
 back : (done : List Sided) (x : Sided) (rest : List Sided) → done ++ x ∷ rest ≡ (done ++ x ∷ []) ++ rest
 back done x rest = sym (append_assoc done (x ∷ []) rest)
@@ -326,7 +301,7 @@ all-same [] done us xs sorted ea eb p h e = record {
 }
 all-same (x ∷ rest) done us xs sorted ea eb p h e =
     comes x.side done rest x.batch us xs sorted ea eb p h e
-    (λ vs k f. subst (λ (n : ℕ). AreSame n vs rest) (longer done x) (all-same rest (done ++ x ∷ []) vs xs (subst IsSorted (back done x rest) sorted) (ap (batches_of A) (sym (back done x rest)) ∙ ea) (ap (batches_of B) (sym (back done x rest)) ∙ eb) p k f))
+    (λ vs k f. subst (λ (n : ℕ). AreSame n vs rest) (more-done done x) (all-same rest (done ++ x ∷ []) vs xs (subst IsSorted (back done x rest) sorted) (ap (batches_of A) (sym (back done x rest)) ∙ ea) (ap (batches_of B) (sym (back done x rest)) ∙ eb) p k f))
 
 merged-same : (xs : List Presented) → IsPresentation xs → AreSame 0 [] (merged xs xs)
 merged-same xs p =

@@ -21,12 +21,15 @@ use Rattle.listener_pair.specs.declared.placed.Placed.{Placed}
 use Rattle.listener_pair.specs.Merged.{Sided, is_side, merged}
 use Rattle.listener_pair.specs.Pairs.{Paired, are_near, at_place, fits, left_by, may_pair, pair_by, pairs, pairs_from, partner_of, unpaired, unpaired_from, within_reach, without_first}
 use Rattle.listener_pair.specs.Matching.{IsSorted, MayPrecede, batches_of, of_side}
-use Rattle.listener_pair.proofs.Sorting.{all-left, all-right, all-weaker, batches-append}
+use Rattle.listener_pair.proofs.Sorting.{all-join, all-left, all-right, all-weaker, batches-append}
 use Rattle.listener_pair.proofs.Windows.{le-yes}
+use Rattle.listener_pair.proofs.Samples.{both-right}
+use Rattle.listener_pair.proofs.PairLaws.{eq-yes}
+use Rattle.listener_pair.proofs.Standing.{sides-length}
 use Rattle.pair_laws.specs.Agreeing.{HasPace, IsOfAnother, IsPairOf, IsPresentedOfTalker, KeepsPace}
 use Rattle.pair_laws.specs.Beside.{AreAllTold, AreTold, IsPresentation}
-use Rattle.pair_laws.proofs.Agreeing.{both-right, left-all, one-that-fits, without-all}
-use Rattle.pair_laws.proofs.Beside.{batches-at, between-at, part-few, parts, pairs-cons, pairs-nil, same-same, sides-length, sorted-after, sorted-back, sorted-before, unpaired-cons, unpaired-nil, zero-far}
+use Rattle.pair_laws.proofs.Agreeing.{left-all, one-that-fits, without-all}
+use Rattle.pair_laws.proofs.Beside.{batches-at, between-at, part-few, parts, pairs-cons, pairs-nil, same-same, sorted-after, sorted-back, sorted-before, unpaired-cons, unpaired-nil, zero-far}
 use Rattle.capture_pair.proofs.Joined.{merges}
 use Rattle.pair_laws.proofs.Paces.{presented-of-talker}
 use Rattle.pair_laws.proofs.Told.{shown-told}
@@ -70,13 +73,10 @@ reach-at a b e u = at (is_unit a) (is_unit b) u
     at true false f = absurd (cc)
     at false true f = absurd (cc)
 
-eqb-same : (n m : ℕ) → n ≡ m → (n == m) ≡ true
-eqb-same n m e = grind arith
-
 fits-at : (s : Which) (x y : Presented) → y.seq ≡ x.seq → first_instant x ≡ first_instant y → is_unit x ≡ is_unit y → fits s x y ≡ true
 unfolding fits
-fits-at A x y q e u = ap (λ v. v && within_reach x y) (eqb-same y.seq x.seq q) ∙ reach-at x y e u
-fits-at B x y q e u = ap (λ v. v && within_reach y x) (eqb-same y.seq x.seq q) ∙ reach-at y x (sym e) (sym u)
+fits-at A x y q e u = ap (λ v. v && within_reach x y) (eq-yes y.seq x.seq q) ∙ reach-at x y e u
+fits-at B x y q e u = ap (λ v. v && within_reach y x) (eq-yes y.seq x.seq q) ∙ reach-at y x (sym e) (sym u)
 
 one-first : (by : Bool) (p : PacketJournal) (n : ℕ) (x y : Presented) → Conforms p.times → IsOfPacket by p n x → IsOfPacket by p n y → first_instant x ≡ first_instant y
 one-first by p n x y is ox oy = one_instant p.times is by n 0 (sample_instant x 0) (sample_instant y 0) ox.known (first_at by p n x is ox) (first_at by p n y is oy)
@@ -135,10 +135,6 @@ record Waits (by : Bool) (p : PacketJournal) (n : ℕ) (w : Placed) (us : List P
   all_before : AllElse by p n before
   all_after : AllElse by p n after
 
-all-with : (Q : Placed → Type 0) (us : List Placed) (x : Placed) → AllByRecursion Q us → Q x → AllByRecursion Q (us ++ x ∷ [])
-all-with Q [] x all h = (h, tt)
-all-with Q (u ∷ us) x all h = (all.0, all-with Q us x all.1 h)
-
 without-waits : (by : Bool) (p : PacketJournal) (n : ℕ) (test : Placed → Bool) (w : Placed) (l r : List Placed) → test w ≡ false → AllElse by p n l → AllElse by p n r → Waits by p n w (without_first test (l ++ w ∷ r))
 without-waits by p n test w [] r e hl hr = record {
   before = [];
@@ -159,7 +155,7 @@ left-waits by p n x w us None no-w e h = record {
   after = h.after ++ x ∷ [];
   split = ap (λ (k : List Placed). k ++ x ∷ []) h.split ∙ append_assoc h.before (w ∷ h.after) (x ∷ []);
   all_before = h.all_before;
-  all_after = all-with (λ u. IsElse by p n u.batch) h.after x h.all_after e;
+  all_after = all-join (λ u. IsElse by p n u.batch) h.after (x ∷ []) h.all_after (e, tt);
 }
 left-waits by p n x w us (Some u) no-w e h = subst (λ (k : List Placed). Waits by p n w (without_first (may_pair x) k)) (sym h.split) (without-waits by p n (may_pair x) w h.before h.after no-w h.all_before h.all_after)
 

@@ -1,5 +1,5 @@
 -- What a listener presents of a talker keeps the talker's pace.
-use Rattle.std.proofs.Common.{◌≡◌, ℕ, zero, suc, ◌+◌, ◌*◌, ◌≤◌, Bool, true, false, inl, inr, ℤ, pos, List, [], ◌∷◌, ◌++◌, length, map, fold, Option, Some, None, Result, Ok, Err, refl, sym, ◌∙◌, subst, arith}
+use Rattle.std.proofs.Common.{◌≡◌, ℕ, zero, suc, ◌+◌, ◌*◌, ◌≤◌, Bool, true, false, inl, inr, ℤ, pos, List, [], ◌∷◌, length, map, Option, Some, None, Result, Ok, Err, refl, sym, ◌∙◌, subst, arith}
 use Rattle.std.specs.Prelude.{◌==◌, if◌then◌else◌, All, IfOk, IfSome, option_map, option_and_then, slice_get}
 use Rattle.std.specs.List.{AllByRecursion, filter_map}
 use Rattle.std.proofs.lemmas.Bool.{eqb-true}
@@ -7,9 +7,9 @@ use Rattle.std.proofs.lemmas.List.Elements.{All-head, All-tail, All-take}
 use Rattle.time_unfold.specs.declared.line.Line.{Line}
 use Rattle.time_unfold.specs.declared.head_rule.Head.{Head}
 use Rattle.clock_track.specs.declared.pair.Pair.{Pair}
-use Rattle.clock_track.specs.PairLines.{IsJoined, Spot, event_line, nearest_event, period, pull_down, spot_by, step_den, step_num}
+use Rattle.clock_track.specs.PairLines.{IsJoined, Spot, event_line, nearest_event, period, spot_by, step_den, step_num}
 use Rattle.clock_track.specs.Rows.{clock_spot}
-use Rattle.clock_track.proofs.LineFacts.{spaced, spaced_least, spaced_own, spaced_own_least}
+use Rattle.clock_track.proofs.LineFacts.{product, spaced, spaced_least, spaced_own, spaced_own_least}
 use Rattle.pcap_frames.specs.Capture.{Record}
 use Rattle.stream_journal.specs.ClockRows.{IsSpotAt, IsTrueRow}
 use Rattle.stream_journal.specs.Clocks.{pair_at}
@@ -17,6 +17,7 @@ use Rattle.stream_journal.specs.Conforming.{IsAudio, IsClock}
 use Rattle.stream_journal.specs.Delivered.{IsAudioKind}
 use Rattle.stream_journal.specs.Journal.{Am824, DenseAaf, H264, Journal, Kind, Part, SparseAaf}
 use Rattle.stream_journal.proofs.TrueLines.{true_spot}
+use Rattle.stream_journal.proofs.TrueClock.{some_down}
 use Rattle.packet_journal.specs.Packets.{PacketJournal, carried}
 use Rattle.sample_schedule.specs.declared.accepted.Accepted.{Accepted}
 use Rattle.sample_schedule.specs.declared.entry.Entry.{Entry}
@@ -28,11 +29,9 @@ use Rattle.sample_schedule.specs.declared.shown.Reason.TheVariants.{Empty, NoRat
 use Rattle.sample_schedule.specs.Batches.{Presented, is_unit}
 use Rattle.sample_schedule.specs.Heads.{head_of}
 use Rattle.sample_schedule.specs.Laws.{presented}
-use Rattle.sample_schedule.specs.Order.{by_instant, put_behind}
 use Rattle.sample_schedule.specs.Schedule.{accepted, accepted_by, given, judged, now_at, prefix_of, verdict_at}
 use Rattle.sample_schedule.specs.Verdicts.{counted_from, decided, moved, nominal_spot, ok_or_reason, row_of, samples_at, spot_of, timed, unit_at_once, verdict}
 use Rattle.sample_schedule.proofs.LawLemmas.{accepted-presented}
-use Rattle.sample_schedule.proofs.OrderLemmas.{all-put_behind}
 use Rattle.listener.specs.declared.plan.ListenPlan.{ListenPlan}
 use Rattle.listener.specs.Heard.{entries_in, items_in, schedule_plan, shown_of}
 use Rattle.listener.specs.Items.{MadeItem}
@@ -40,7 +39,9 @@ use Rattle.listener.specs.Laws.{HearsTalker, IsOfJournal, by_clock, presented_of
 use Rattle.listener.proofs.TrueHeard.{IsFollowed}
 use Rattle.listener.proofs.TrueItems.{sent}
 use Rattle.listener.proofs.TrueList.{IsBadEntry, IsClockEntry, IsStreamEntry, IsTrueEntry, IsUnitEntry, batches_are, entries_true, followed, prefix_true, presented_true}
+use Rattle.capture_pair.proofs.Heard.{accepted-all, sorted-all}
 use Rattle.pair_laws.specs.Agreeing.{IsPresentedOfTalker, KeepsPace}
+use Rattle.listener_pair.proofs.Sorting.{all-join}
 
 -- ---- lines
 
@@ -48,22 +49,6 @@ record LinePace (rate : ℕ) (line : Line) : Type 0 where
   some : 1 ≤ line.den
   least : 7000000000 * line.den ≤ 8 * (rate * line.num)
   spacing : 8 * (rate * line.num) ≤ 9000000000 * line.den
-
-some-by : (a b c d e : Bool) → 1 ≤ (if a then 1001 else if b then 1000 else if c then 25 else if d then 24 else if e then 8 else 1)
-some-by true b c d e = omega arith
-some-by false true c d e = omega arith
-some-by false false true d e = omega arith
-some-by false false false true e = omega arith
-some-by false false false false true = omega arith
-some-by false false false false false = omega arith
-
-some-down : (pull : ℕ) → 1 ≤ pull_down pull
-some-down pull = some-by (pull == 1) (pull == 2) (pull == 3) (pull == 4) (pull == 5)
-
-product : (a b : ℕ) → 1 ≤ a → 1 ≤ b → 1 ≤ a * b
-product (suc a) (suc b) p q = omega arith
-product zero b p q = absurd (omega arith)
-product (suc a) zero p q = absurd (omega arith)
 
 own-pace : (p : Pair) (rate : ℕ) → 1 ≤ p.interval → 1 ≤ p.down → IsJoined p → p.up ≡ rate * p.down → LinePace rate (event_line p)
 own-pace p rate some down joined own = record {
@@ -92,7 +77,7 @@ pair-pace p rate instant rated some down joined = by (p.up == rate * p.down) ref
 spot-pace : (j : Journal) (instant : ℤ) (spot : Spot) → IsAudio j → IsClock j.clock → IsSpotAt j instant spot → LinePace j.rate spot.line
 spot-pace j instant spot audio clock s =
     subst (λ (x : Spot). LinePace j.rate x.line) (sym s.same)
-    (pair-pace (pair_at j.clock s.earlier s.later) j.rate instant (let r = audio.rate_from in omega arith) clock.interval (some-down j.clock.pull) s.joined.joined)
+    (pair-pace (pair_at j.clock s.earlier s.later) j.rate instant (let r = audio.rate_from in omega arith) clock.interval (some_down j.clock.pull) s.joined.joined)
 
 nominal-pace : (rate : ℕ) (h : Head) → 1 ≤ rate → LinePace rate (nominal_spot rate h).line
 nominal-pace rate h some = record { some = some; least = omega arith; spacing = omega arith }
@@ -166,10 +151,6 @@ unfolding verdict
 verdict-pace P plan now earlier place (Err reason) is = tt
 verdict-pace P plan now earlier place (Ok batch) is = decided-pace P _ _ _ place batch is
 
-accepted-one : (p : PacketJournal) (r : Result Accepted Reason) → IfOk r (λ a. Paced p a.batch) → AllPaced p (accepted_by (Some r))
-accepted-one p (Ok a) h = (h, tt)
-accepted-one p (Err reason) h = tt
-
 judged-stream : (items : List MadeItem) (shift : ℤ) (p : PacketJournal) (plan : SchedulePlan) (es : List Entry) (n : ℕ) (earlier : List Accepted) (e : Entry) → (IsAudioKind p.times.kind → IsFollowed shift p.times plan) → All (IsTrueEntry items shift p plan.lead) es
     → IsStreamEntry items p plan.lead e → AllPaced p (accepted_by (judged clock_spot plan es n earlier e))
 judged-stream items shift p plan es n earlier e is all t =
@@ -178,7 +159,7 @@ judged-stream items shift p plan es n earlier e is all t =
     let known = prefix_true items shift p plan.lead prefix (λ heard. (is heard).audio) (All-take (IsTrueEntry items shift p plan.lead) (n + plan.look + 1) es all) in
     let r = timed clock_spot plan prefix (OfPacket packet) in
     subst (λ (x : Entry). AllPaced p (accepted_by (judged clock_spot plan es n earlier x))) (sym t.same)
-    (accepted-one p (verdict plan (now_at es n) earlier n r)
+    (accepted-all (λ a. Paced p a.batch) (verdict plan (now_at es n) earlier n r)
     (verdict-pace (Paced p) plan (now_at es n) earlier n r (ok-audio p r t.heard (timed-pace shift p.times plan t.number t.delivery.frame t.copy.arrival (carried (p.packet t.number)) prefix (is t.heard) known.rows))))
 
 unit-pace : (kind : Kind) (part : ℕ → Part) (rate : ℕ) (batch : Presented) → kind ≡ H264 part → is_unit batch ≡ true → KeepsPace kind rate batch
@@ -188,7 +169,7 @@ judged-unit : (items : List MadeItem) (p : PacketJournal) (plan : SchedulePlan) 
 unfolding timed
 judged-unit items p plan es n earlier e t =
     subst (λ (x : Entry). AllPaced p (accepted_by (judged clock_spot plan es n earlier x))) (sym (t.same ∙ t.is.entry))
-    (accepted-one p (verdict plan (now_at es n) earlier n (Ok (unit_at_once t.is.unit)))
+    (accepted-all (λ a. Paced p a.batch) (verdict plan (now_at es n) earlier n (Ok (unit_at_once t.is.unit)))
     (verdict-pace (Paced p) plan (now_at es n) earlier n (Ok (unit_at_once t.is.unit)) (unit-pace p.times.kind t.part p.times.rate (unit_at_once t.is.unit) t.kind refl)))
 
 judged-bad : (p : PacketJournal) (plan : SchedulePlan) (es : List Entry) (n : ℕ) (earlier : List Accepted) (e : Entry) → IsBadEntry e → AllPaced p (accepted_by (judged clock_spot plan es n earlier e))
@@ -211,10 +192,6 @@ entry-at P [] n all = tt
 entry-at P (e ∷ es) zero all = All-head P e es all
 entry-at P (e ∷ es) (suc n) all = entry-at P es n (All-tail P e es all)
 
-all-join : (P : Accepted → Type 0) (xs ys : List Accepted) → AllByRecursion P xs → AllByRecursion P ys → AllByRecursion P (xs ++ ys)
-all-join P [] ys p q = q
-all-join P (x ∷ xs) ys p q = (p.0, all-join P xs ys p.1 q)
-
 accepted-pace : (items : List MadeItem) (shift : ℤ) (p : PacketJournal) (plan : SchedulePlan) (es : List Entry) (n : ℕ) → (IsAudioKind p.times.kind → IsFollowed shift p.times plan) → All (IsTrueEntry items shift p plan.lead) es → AllPaced p (accepted clock_spot plan es n)
 unfolding accepted verdict_at
 accepted-pace items shift p plan es zero is all = tt
@@ -223,14 +200,6 @@ accepted-pace items shift p plan es (suc n) is all =
     (judged-pace items shift p plan es n (accepted clock_spot plan es n) (slice_get es n) is all (entry-at (IsTrueEntry items shift p plan.lead) es n all))
 
 -- ---- what is presented
-
-fold-all : (P : Accepted → Type 0) (xs ys : List Accepted) → AllByRecursion P xs → AllByRecursion P ys → AllByRecursion P (fold put_behind ys xs)
-fold-all P [] ys p q = q
-fold-all P (x ∷ xs) ys p q = fold-all P xs (put_behind ys x) p.1 (all-put_behind P ys x q p.0)
-
-sorted-all : (P : Accepted → Type 0) (xs : List Accepted) → AllByRecursion P xs → AllByRecursion P (by_instant xs)
-unfolding by_instant
-sorted-all P xs p = fold-all P xs [] p tt
 
 batches-all : (P : Presented → Type 0) (xs : List Accepted) → AllByRecursion (λ a. P a.batch) xs → AllByRecursion P (map (λ (a : Accepted). a.batch) xs)
 batches-all P [] h = tt

@@ -5,11 +5,10 @@ use Rattle.avtp_base.specs.States.{ShelfState, AsksNothing, Asks, SinkState}
 use Rattle.capture_io.specs.Source.{slot_of, to_do, HasGivenOf, Sourcing, GivesNext, held_in}
 use Rattle.avtp_base.specs.Files.{KeepsFiles, Files, IsMissing}
 use Rattle.listener.specs.Listening.{ListenState, is_closed}
-use Rattle.capture_pair.specs.Pairing.{StandsFor, HavePlan, PairState, EndsAreClosed, IsThrough, Keeps as KeepsPair, known_by, Changes}
+use Rattle.capture_pair.specs.Pairing.{StandsFor, HavePlan, PairState, EndsAreClosed, IsThrough, Keeps as KeepsPair, known_by, other_of, Changes}
 use Rattle.avtp_base.specs.declared.failed.OpenFault.{OpenFault}
 use Rattle.avtp_base.specs.Faults.{IsOpenCounted, Rose}
 use Rattle.capture_io.specs.Reads.{OnlyReads}
-use Rattle.listener.specs.declared.plan.ListenPlan.{ListenPlan}
 use Rattle.avtp_base.specs.declared.failed.Failed.{Failed}
 use Rattle.avtp_base.specs.Told.{Appends, Keeps}
 use Rattle.pcap_frames.specs.Capture.{Record}
@@ -23,7 +22,6 @@ use Rattle.capture_io.specs.Ends.{end_of, EndsAt}
 use Rattle.capture_io.specs.Formats.{records_in}
 use Rattle.avtp_words.specs.Grammar.{Agreeing}
 use Rattle.listener_pair.specs.Merged.{known, merged}
-use Rattle.listener_pair.specs.declared.difference.PairCounts.{PairCounts}
 use Rattle.capture_io.specs.declared.end.End.TheVariants as end
 use Rattle.avtp_base.specs.declared.failed.OpenFault.TheVariants as open_fault
 use Rattle.run_report.specs.Outcome.{KeepsSink}
@@ -33,6 +31,7 @@ use Rattle.agree_command.specs.declared.comparing.Side.{Side}
 use Rattle.agree_command.specs.Agree.{difference_lines, due_in, presented_in, merged_in}
 use Rattle.agree_command.specs.declared.comparing.Step.{Step}
 use Rattle.agree_command.specs.declared.comparing.Compared.{Compared}
+use Rattle.agree_command.specs.declared.comparing.Ended.{Ended}
 use Rattle.agree_command.specs.declared.comparing.Step.TheVariants as step
 use Rattle.agree_command.specs.declared.comparing.Compared.TheVariants as compared
 
@@ -96,14 +95,19 @@ pub record IsBegun (c : Comparing) : Type 0 where
   pub b : IsFresh c.b c.pair.b
   pub stands : StandsFor [] [] 0 c.pair
 
--- The shelf shows the bytes of the files `a` and `b`. No record of either file was read yet.
-pub record AreTold (limit : ℕ) (files : Files) (a b : List ℕ) (shelf : ShelfState) (c : Comparing) : Type 0 where
+-- No record was read yet of two captures with the bytes `x` and `y`. Both listeners have the plan that is asked for.
+pub record AreUnread (asked : Agreeing) (x y : List ℕ) (shelf : ShelfState) (c : Comparing) : Type 0 where
+  pub plans : HavePlan (plan_of asked.listener) c.pair
+  pub given_a : HasGivenOf asked.listener.limit x shelf c.a.source []
+  pub given_b : HasGivenOf asked.listener.limit y shelf c.b.source []
+
+-- The shelf shows the bytes of both files, and no record of either file was read yet.
+pub record AreTold (asked : Agreeing) (files : Files) (shelf : ShelfState) (c : Comparing) : Type 0 where
   pub bytes_a : List ℕ
   pub bytes_b : List ℕ
-  pub is_a : files a ≡ Some bytes_a
-  pub is_b : files b ≡ Some bytes_b
-  pub given_a : HasGivenOf limit bytes_a shelf c.a.source []
-  pub given_b : HasGivenOf limit bytes_b shelf c.b.source []
+  pub is_a : files asked.a ≡ Some bytes_a
+  pub is_b : files asked.b ≡ Some bytes_b
+  pub unread : AreUnread asked bytes_a bytes_b shelf c
 
 -- the file `name` was not opened, for the reason `fault`
 pub record Refuses (before after : ShelfState) (name : List ℕ) (fault : OpenFault) : Type 0 where
@@ -118,12 +122,11 @@ pub data RefusesTwo (before after : ShelfState) (a b : List ℕ) (fault : OpenFa
 
 -- If the result is `Ok`, both captures were opened, and nothing was read from them yet. With `Err`, one of the captures
 -- was not opened, or memory ran out.
-pub record OpensTwo (before after : ShelfState) (limit : ℕ) (plan : ListenPlan) (a b : List ℕ) (result : Result Comparing OpenFault) : Type 0 where
-  pub told : IfOk result (λ c. (files : Files) → before.files ≡ Some files → IsSome after.files → AreTold limit files a b after c)
+pub record OpensTwo (before after : ShelfState) (asked : Agreeing) (result : Result Comparing OpenFault) : Type 0 where
+  pub told : IfOk result (λ c. (files : Files) → before.files ≡ Some files → IsSome after.files → AreTold asked files after c)
   pub begun : IfOk result IsBegun
-  pub plans : IfOk result (λ c. HavePlan plan c.pair)
-  pub opened : IfOk result (λ c. OpensSlots before after a b (slot_of c.a.source) (slot_of c.b.source))
-  pub refused : IfErr result (RefusesTwo before after a b)
+  pub opened : IfOk result (λ c. OpensSlots before after asked.a asked.b (slot_of c.a.source) (slot_of c.b.source))
+  pub refused : IfErr result (RefusesTwo before after asked.a asked.b)
 
 -- ---- differences
 
@@ -195,10 +198,15 @@ pub record ReadsSide (which : Which) (shelf shelf' : ShelfState) (side side' : S
   pub kept : Keeps (written out.held waits) (written out'.held waits')
   pub sink : KeepsSink out out' result
 
+-- the capture `which`
+abbrev pub side_of : Which → Comparing → Side
+side_of A c = c.a
+side_of B c = c.b
+
 -- One step of reading the capture `which` was done. The other capture is unchanged.
 pub record ReadsOn (which : Which) (shelf shelf' : ShelfState) (c c' : Comparing) (out out' : SinkState) (waits waits' : List ℕ) (result : Result Step Failed) : Type 0 where
-  pub in_a : which ≡ A → ReadsSide A shelf shelf' c.a c'.a c.pair c'.pair out out' waits waits' result × (c'.b ≡ c.b)
-  pub in_b : which ≡ B → ReadsSide B shelf shelf' c.b c'.b c.pair c'.pair out out' waits waits' result × (c'.a ≡ c.a)
+  pub here : ReadsSide which shelf shelf' (side_of which c) (side_of which c') c.pair c'.pair out out' waits waits' result
+  pub other : side_of (other_of which) c' ≡ side_of (other_of which) c
 
 -- ---- two captures, as far as they were compared
 
@@ -217,11 +225,15 @@ left_by side (Some how) = 0
 abbrev pub left_of : Side → ℕ
 left_of side = left_by side side.end
 
--- Two captures were read further, and no read fault was counted.
-pub record IsAmidTwo (shelf shelf' : ShelfState) (old new : Comparing) : Type 0 where
-  pub reads : ReadsTwo shelf shelf' (slot_of old.a.source) (slot_of old.b.source)
+-- Two captures were read further, each in the slot where it was opened.
+pub record ReadsBoth (shelf shelf' : ShelfState) (old new : Comparing) : Type 0 where
+  pub two : ReadsTwo shelf shelf' (slot_of old.a.source) (slot_of old.b.source)
   pub slot_a : slot_of new.a.source ≡ slot_of old.a.source
   pub slot_b : slot_of new.b.source ≡ slot_of old.b.source
+
+-- Two captures were read further, and no read fault was counted.
+pub record IsAmidTwo (shelf shelf' : ShelfState) (old new : Comparing) : Type 0 where
+  pub reads : ReadsBoth shelf shelf' old new
   pub quiet : shelf'.reading_faults ≡ shelf.reading_faults
   pub a : IsSideAt new.a new.pair.a
   pub b : IsSideAt new.b new.pair.b
@@ -253,16 +265,16 @@ pub data IsCutIn (asked : Agreeing) (x y : List ℕ) (fault : Type 0) (before no
   in_b : (prefix : List ℕ) → EndsAt asked.listener.limit (Some y) fault end.ReadFault prefix
       → Appends before now (difference_lines (differences (known true false (merged (presented_in asked x) (due_in asked prefix))))) → IsCutIn asked x y fault before now
 
--- All differences between two captures were printed. The readings of both captures ended; `a` and `b` say how.
-pub record HasCompared (asked : Agreeing) (x y : List ℕ) (a b : End) (counts : PairCounts) (before now : Option (List ℕ)) : Type 0 where
-  pub end_a : a ≡ end_of asked.listener.limit x
-  pub end_b : b ≡ end_of asked.listener.limit y
-  pub counted : counts ≡ counts_of (merged_in asked x y)
+-- The readings of both captures have ended, and all differences between the captures were printed.
+pub record HasCompared (asked : Agreeing) (x y : List ℕ) (ended : Ended) (before now : Option (List ℕ)) : Type 0 where
+  pub a : ended.a ≡ end_of asked.listener.limit x
+  pub b : ended.b ≡ end_of asked.listener.limit y
+  pub counts : ended.counts ≡ counts_of (merged_in asked x y)
   pub lines : Appends before now (difference_lines (differences (merged_in asked x y)))
 
 -- the result of comparing two captures with the bytes `x` and `y`, and what the comparison printed
 abbrev pub ComparesTo : Agreeing → List ℕ → List ℕ → Type 0 → Option (List ℕ) → Option (List ℕ) → Result Compared Failed → Type 0
-ComparesTo asked x y fault before now (Ok (compared.Ended a b counts)) = HasCompared asked x y a b counts before now
+ComparesTo asked x y fault before now (Ok (compared.Ended ended)) = HasCompared asked x y ended before now
 ComparesTo asked x y fault before now (Ok compared.Fault) = IsCutIn asked x y fault before now
 ComparesTo asked x y fault before now (Ok compared.NoMemory) = AppendsPrefix before now (difference_lines (differences (merged_in asked x y)))
 ComparesTo asked x y fault before now (Err e) = AppendsPrefix before now (difference_lines (differences (merged_in asked x y)))
@@ -270,28 +282,20 @@ ComparesTo asked x y fault before now (Err e) = AppendsPrefix before now (differ
 -- The count of reading faults rose if a read fault stopped the comparison. If no read fault stopped the comparison, the
 -- count is unchanged. If the result is `Ended`, neither reading ended with a read fault.
 abbrev pub CountsCompared : Result Compared Failed → ℕ → ℕ → Type 0
-CountsCompared (Ok (compared.Ended a b counts)) before after = (a ≢ end.ReadFault) × (b ≢ end.ReadFault) × (after ≡ before)
+CountsCompared (Ok (compared.Ended ended)) before after = (ended.a ≢ end.ReadFault) × (ended.b ≢ end.ReadFault) × (after ≡ before)
 CountsCompared (Ok compared.Fault) before after = Rose before after
 CountsCompared (Ok compared.NoMemory) before after = after ≡ before
 CountsCompared (Err e) before after = after ≡ before
 
--- both readings have ended, and `result` is the result of the comparison
-pub record EndsCompared (c : Comparing) (result : Compared) : Type 0 where
-  pub a : End
-  pub b : End
-  pub counts : PairCounts
-  pub is_a : c.a.end ≡ Some a
-  pub is_b : c.b.end ≡ Some b
-  pub is : result ≡ compared.Ended a b counts
-  pub counted : (records others : List Record) (given : ℕ) → StandsFor records others given c.pair → counts ≡ counts_of (known_by c.pair records others)
+-- both readings have ended, and `ended` is the result of the comparison
+pub record EndsCompared (c : Comparing) (ended : Ended) : Type 0 where
+  pub a : c.a.end ≡ Some ended.a
+  pub b : c.b.end ≡ Some ended.b
+  pub counts : (records others : List Record) (given : ℕ) → StandsFor records others given c.pair → ended.counts ≡ counts_of (known_by c.pair records others)
 
 -- Two captures were compared, as far as they could be read, and their differences were printed.
 pub record Compares (shelf shelf' : ShelfState) (old new : Comparing) (out out' : SinkState) (waits waits' : List ℕ) (result : Result Compared Failed) : Type 0 where
-  pub told : (asked : Agreeing) (x y : List ℕ) → HavePlan (plan_of asked.listener) old.pair
-      → HasGivenOf asked.listener.limit x shelf old.a.source [] → HasGivenOf asked.listener.limit y shelf old.b.source []
-      → ComparesTo asked x y (Rose shelf.reading_faults shelf'.reading_faults) (written out.held waits) (written out'.held waits') result
-  pub reads : ReadsTwo shelf shelf' (slot_of old.a.source) (slot_of old.b.source)
-  pub slot_a : slot_of new.a.source ≡ slot_of old.a.source
-  pub slot_b : slot_of new.b.source ≡ slot_of old.b.source
+  pub told : (asked : Agreeing) (x y : List ℕ) → AreUnread asked x y shelf old → ComparesTo asked x y (Rose shelf.reading_faults shelf'.reading_faults) (written out.held waits) (written out'.held waits') result
+  pub reads : ReadsBoth shelf shelf' old new
   pub counted : CountsCompared result shelf.reading_faults shelf'.reading_faults
   pub sink : KeepsSink out out' result

@@ -1,12 +1,11 @@
 use Rattle.run_report.proofs.Outcomes.{sink_err, sink_part, sink_ok}
 use Rattle.run_report.proofs.Leaving.{on_err}
-use Rattle.agree_command.specs.Agree.{agree_status, last_lines}
 use Rattle.agree_command.specs.state.Agree.{EndsWithLines}
 use Rattle.agree_command.proofs.command.print_end.Goals as goal
 
 pub returns-in_err-print_last : goal.returns-in_err-print_last
 returns-in_err-print_last g c =
-    on_err (λ r. EndsWithLines (agree_status c.args.counts.now.differ c.args.a c.args.b) (g.S.Sink.state c.args.out.now) (g.S.Sink.state c.print_last.new.out) c.args.text.now c.print_last.new.text r (last_lines c.args.limit c.args.counts.now c.args.a c.args.b)) c.from_residual.result c.from_residual.ensures.0
+    on_err (EndsWithLines c.args.limit c.args.ended.now (g.S.Sink.state c.args.out.now) (g.S.Sink.state c.print_last.new.out) c.args.text.now c.print_last.new.text) c.from_residual.result c.from_residual.ensures.0
     (λ e. record { status = tt; written = c.in_err-print_last.ensures.written; sink = sink_err (sink_part c.in_err-print_last.ensures) })
 
 pub returns : goal.returns

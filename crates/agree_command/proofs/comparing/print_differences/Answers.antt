@@ -6,9 +6,10 @@ use Rattle.avtp_text.specs.Written.{written}
 use Rattle.listener_pair.specs.declared.difference.Difference.{Difference}
 use Rattle.listener_pair.specs.Differences.{differences}
 use Rattle.capture_pair.specs.Pairing.{known_by, StandsFor}
+use Rattle.capture_pair.proofs.Stays.{given-all}
 use Rattle.run_report.proofs.Outcomes.{sink_printed, sink_then, sink_err}
 use Rattle.run_report.proofs.Leaving.{on_err}
-use Rattle.agree_command.proofs.SideBySide.{known_same, lines_next, pair_then, take_past}
+use Rattle.agree_command.proofs.SideBySide.{known_same, lines_next, pair_then}
 use Rattle.agree_command.specs.state.Comparing.{PrintsDifferences}
 use Rattle.agree_command.specs.Agree.{difference_lines}
 use Rattle.agree_command.proofs.comparing.print_differences.Goals as goal
@@ -53,7 +54,7 @@ returns g c =
           let so = before.printed records others given base stands lines in
           let same = ap differences (known_same c.args.pair.now c.loop-difference.pair records others before.keeps) in
           let at = subst (λ (l : List Difference). slice_get l so.0 ≡ None) same (sym (gave.given records others so.0 so.1)) in
-          let all = take_past (differences (known_by c.args.pair.now records others)) so.0 at in
+          let all = given-all (differences (known_by c.args.pair.now records others)) so.0 at in
           let none : so.0 + 0 ≡ so.0 = omega arith in
           (so.0, all, subst (λ (n : ℕ). StandsFor records others n c.next_difference.new.self) none (gave.stands records others so.0 so.1), subst (λ (l : List Difference). Appends base (written (g.S.Sink.state c.loop-difference.out).held c.loop-difference.text) (difference_lines l)) all so.2);
       through = gave.through;

@@ -5,8 +5,9 @@ use Rattle.listener_pair.specs.Matching.{IsIdle}
 use Rattle.listener_pair.specs.declared.difference.Difference.{Difference}
 use Rattle.capture_pair.specs.Pairing.{Pairs}
 use Rattle.capture_pair.specs.state.Sides.{Kept}
-use Rattle.capture_pair.proofs.Filling.{asked-on, idle-of, none-given, none-of, pairs-none, some-given, waits-idle, wants-none}
+use Rattle.capture_pair.proofs.Filling.{asked-on, idle-of, none-given, pairs-none, some-given, waits-idle}
 use Rattle.capture_pair.proofs.sides.next_difference.Goals as goal
+use Rattle.avtp_base.proofs.Results.{not_some}
 
 pub returns-then-is_some-clause-given : goal.returns-then-is_some-clause-given
 returns-then-is_some-clause-given g c ta tb list other given hl ho p =
@@ -33,10 +34,10 @@ returns-then-is_some-2-clause-pairs g c ta tb list other given hl ho p =
 pub returns-then-is_none-clause-given : goal.returns-then-is_none-clause-given
 returns-then-is_none-clause-given g c ta tb list other given hl ho p =
     let d = c.next_difference-difference in
-    let none : d.result ≡ None = none-of d.result (sym c.is_some-in-loop-wanted.ensures ∙ c.if-is_some-2.false) in
+    let none : d.result ≡ None = not_some d.result (sym c.is_some-in-loop-wanted.ensures ∙ c.if-is_some-2.false) in
     let q = c.fill_both.ensures.pairs ta tb list other (given + length (option_to_list d.result)) hl ho
     (asked-on (g.S.Source.shows c.loop-wanted.a ta) (g.S.Source.shows c.loop-wanted.b tb) list other given c.loop-wanted.matching d.new.self d.result (c.loop-wanted.invariant.pairs ta tb list other given hl ho p) d.ensures.stands d.ensures.ended.0 d.ensures.ended.1) in
-    let same = c.fill_both.ensures.shrinks.same (sym c.wants-wanted.ensures ∙ wants-none c.wants-wanted.result (c.is_none.ensures ∙ ap not c.if-is_none.true)) in
+    let same = c.fill_both.ensures.shrinks.same (sym c.wants-wanted.ensures ∙ not_some c.wants-wanted.result (c.is_none.ensures ∙ ap not c.if-is_none.true)) in
     none-given (g.S.Source.shows c.fill_both.new.a ta) (g.S.Source.shows c.fill_both.new.b tb) (g.S.Source.is_quiet c.fill_both.new.a) (g.S.Source.is_quiet c.fill_both.new.b) list other given
     (g.S.Source.kept c.fill_both.new.a).ended (g.S.Source.kept c.args.a.now).ended (g.S.Source.kept c.fill_both.new.b).ended (g.S.Source.kept c.args.b.now).ended c.fill_both.new.matching hl ho
     (pairs-none (g.S.Source.shows c.fill_both.new.a ta) (g.S.Source.shows c.fill_both.new.b tb) list other given c.fill_both.new.matching d.result none q) c.fill_both.ensures.stays.settled
@@ -46,7 +47,7 @@ returns-then-is_none-clause-given g c ta tb list other given hl ho p =
 pub returns-then-is_none-clause-pairs : goal.returns-then-is_none-clause-pairs
 returns-then-is_none-clause-pairs g c ta tb list other given hl ho p =
     let d = c.next_difference-difference in
-    let none : d.result ≡ None = none-of d.result (sym c.is_some-in-loop-wanted.ensures ∙ c.if-is_some-2.false) in
+    let none : d.result ≡ None = not_some d.result (sym c.is_some-in-loop-wanted.ensures ∙ c.if-is_some-2.false) in
     let q = c.fill_both.ensures.pairs ta tb list other (given + length (option_to_list d.result)) hl ho
     (asked-on (g.S.Source.shows c.loop-wanted.a ta) (g.S.Source.shows c.loop-wanted.b tb) list other given c.loop-wanted.matching d.new.self d.result (c.loop-wanted.invariant.pairs ta tb list other given hl ho p) d.ensures.stands d.ensures.ended.0 d.ensures.ended.1) in
     subst (λ (o : Option Difference). Pairs (g.S.Source.shows c.fill_both.new.a ta) (g.S.Source.shows c.fill_both.new.b tb) list other (given + length (option_to_list o)) c.fill_both.new.matching) none q
@@ -54,7 +55,7 @@ returns-then-is_none-clause-pairs g c ta tb list other given hl ho p =
 pub returns-then-is_some-3-clause-given : goal.returns-then-is_some-3-clause-given
 returns-then-is_some-3-clause-given g c ta tb list other given hl ho p =
     let d = c.next_difference-difference in
-    let none : d.result ≡ None = none-of d.result (sym c.is_some-in-loop-wanted.ensures ∙ c.if-is_some-2.false) in
+    let none : d.result ≡ None = not_some d.result (sym c.is_some-in-loop-wanted.ensures ∙ c.if-is_some-2.false) in
     let q = c.fill_both.ensures.pairs ta tb list other (given + length (option_to_list d.result)) hl ho
     (asked-on (g.S.Source.shows c.loop-wanted.a ta) (g.S.Source.shows c.loop-wanted.b tb) list other given c.loop-wanted.matching d.new.self d.result (c.loop-wanted.invariant.pairs ta tb list other given hl ho p) d.ensures.stands d.ensures.ended.0 d.ensures.ended.1) in
     none-given (g.S.Source.shows c.fill_both.new.a ta) (g.S.Source.shows c.fill_both.new.b tb) (g.S.Source.is_quiet c.fill_both.new.a) (g.S.Source.is_quiet c.fill_both.new.b) list other given
@@ -66,7 +67,7 @@ returns-then-is_some-3-clause-given g c ta tb list other given hl ho p =
 pub returns-then-is_some-3-clause-pairs : goal.returns-then-is_some-3-clause-pairs
 returns-then-is_some-3-clause-pairs g c ta tb list other given hl ho p =
     let d = c.next_difference-difference in
-    let none : d.result ≡ None = none-of d.result (sym c.is_some-in-loop-wanted.ensures ∙ c.if-is_some-2.false) in
+    let none : d.result ≡ None = not_some d.result (sym c.is_some-in-loop-wanted.ensures ∙ c.if-is_some-2.false) in
     let q = c.fill_both.ensures.pairs ta tb list other (given + length (option_to_list d.result)) hl ho
     (asked-on (g.S.Source.shows c.loop-wanted.a ta) (g.S.Source.shows c.loop-wanted.b tb) list other given c.loop-wanted.matching d.new.self d.result (c.loop-wanted.invariant.pairs ta tb list other given hl ho p) d.ensures.stands d.ensures.ended.0 d.ensures.ended.1) in
     subst (λ (o : Option Difference). Pairs (g.S.Source.shows c.fill_both.new.a ta) (g.S.Source.shows c.fill_both.new.b tb) list other (given + length (option_to_list o)) c.fill_both.new.matching) none q
@@ -77,7 +78,7 @@ returns-then-is_some-3-clause-idle g c = waits-idle c.fill_both.new.matching (ap
 pub loop-wanted-preserved : goal.loop-wanted-preserved
 loop-wanted-preserved g c =
     let d = c.next_difference-difference in
-    let none : d.result ≡ None = none-of d.result (sym c.is_some-in-loop-wanted.ensures ∙ c.if-is_some-2.false) in
+    let none : d.result ≡ None = not_some d.result (sym c.is_some-in-loop-wanted.ensures ∙ c.if-is_some-2.false) in
     record {
       pairs = λ ta tb list other given hl ho p.
           pairs-none (g.S.Source.shows c.fill_both.new.a ta) (g.S.Source.shows c.fill_both.new.b tb) list other given c.fill_both.new.matching d.result none

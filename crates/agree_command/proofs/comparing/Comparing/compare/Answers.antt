@@ -1,12 +1,9 @@
-use Rattle.std.proofs.Common.{Some, Ok, sym, ap, subst, ◌∙◌, refl}
-use Rattle.avtp_base.specs.Faults.{Rose}
-use Rattle.avtp_text.specs.Written.{written}
+use Rattle.std.proofs.Common.{Some, sym, ap, ◌∙◌, refl}
 use Rattle.capture_io.specs.declared.end.End.{End}
 use Rattle.run_report.proofs.Leaving.{on_err}
 use Rattle.run_report.proofs.Outcomes.{sink_err, sink_then, sink_ok}
-use Rattle.agree_command.specs.state.Comparing.{Compares, ComparesTo, CountsCompared}
-use Rattle.agree_command.proofs.SideBySide.{amid_printed, plans_of, told_failed, told_ended, told_printed, cut_on, kept_on, part_kept, told_part, less_on, amid_on, told_on, fault_on, told_fault, memory_on}
-use Rattle.agree_command.specs.declared.comparing.Compared.{Compared}
+use Rattle.agree_command.specs.state.Comparing.{Compares}
+use Rattle.agree_command.proofs.SideBySide.{amid_printed, plans_of, told_failed, told_ended, told_printed, cut_on, part_kept, told_part, less_on, amid_on, told_on, fault_on, told_fault, memory_on}
 use Rattle.agree_command.proofs.comparing.Comparing.compare.Goals as goal
 
 pub returns-in_err-print_differences : goal.returns-in_err-print_differences
@@ -14,12 +11,10 @@ returns-in_err-print_differences g c =
     let before = c.loop-self.invariant in
     let prints = c.in_err-print_differences.ensures in
     let now = amid_printed prints.keeps before.amid in
-    on_err (Compares (g.F.Shelf.state c.args.shelf.now) (g.F.Shelf.state c.loop-self.shelf) c.args.self.now (record { a = c.loop-self.self.a; b = c.loop-self.self.b; pair = c.print_differences.new.pair })
-    (g.S.Sink.state c.args.out.now) (g.S.Sink.state c.print_differences.new.out) c.args.text.now c.print_differences.new.text) c.from_residual.result c.from_residual.ensures.0 (λ e. record {
-      told = λ asked x y plans given_a given_b. told_failed prints now.a now.b (plans_of now plans) (before.told asked x y plans given_a given_b);
+    on_err (Compares (g.F.Shelf.state c.args.context.shelf.now) (g.F.Shelf.state c.loop-self.shelf) c.args.self.now (record { a = c.loop-self.self.a; b = c.loop-self.self.b; pair = c.print_differences.new.pair })
+    (g.S.Sink.state c.args.context.out.now) (g.S.Sink.state c.print_differences.new.out) c.args.context.text.now c.print_differences.new.text) c.from_residual.result c.from_residual.ensures.0 (λ e. record {
+      told = λ asked x y unread. told_failed prints now.a now.b (plans_of now unread.plans) (before.told asked x y unread);
       reads = now.reads;
-      slot_a = now.slot_a;
-      slot_b = now.slot_b;
       counted = now.quiet;
       sink = sink_err (sink_then before.sink prints.sink);
     })
@@ -31,15 +26,9 @@ returns-in_default g c =
     let now = amid_printed prints.keeps before.amid in
     let ends = c.ended.ensures in
     record {
-      told = λ asked x y plans given_a given_b.
-          subst (λ (r : Compared). ComparesTo asked x y (Rose (g.F.Shelf.state c.args.shelf.now).reading_faults (g.F.Shelf.state c.loop-self.shelf).reading_faults) (written (g.S.Sink.state c.args.out.now).held c.args.text.now)
-          (written (g.S.Sink.state c.print_differences.new.out).held c.print_differences.new.text) (Ok r)) (sym ends.is)
-          (told_ended now.a now.b (plans_of now plans) (told_printed prints (before.told asked x y plans given_a given_b)) ends);
+      told = λ asked x y unread. told_ended now.a now.b (plans_of now unread.plans) (told_printed prints (before.told asked x y unread)) ends;
       reads = now.reads;
-      slot_a = now.slot_a;
-      slot_b = now.slot_b;
-      counted = subst (λ (r : Compared). CountsCompared (Ok r) (g.F.Shelf.state c.args.shelf.now).reading_faults (g.F.Shelf.state c.loop-self.shelf).reading_faults) (sym ends.is)
-          (λ is. now.a.no_fault (ends.is_a ∙ ap (λ (h : End). Some h) is), λ is. now.b.no_fault (ends.is_b ∙ ap (λ (h : End). Some h) is), now.quiet);
+      counted = (λ is. now.a.no_fault (ends.a ∙ ap (λ (h : End). Some h) is), λ is. now.b.no_fault (ends.b ∙ ap (λ (h : End). Some h) is), now.quiet);
       sink = sink_ok _ (sink_then before.sink prints.sink);
     }
 
@@ -50,15 +39,12 @@ returns-in_err-read_on g c =
     let now = amid_printed prints.keeps before.amid in
     let reads = c.in_err-read_on.ensures in
     let cut = cut_on now c.in-Some.which reads in
-    let kept = kept_on c.in-Some.which reads in
-    on_err (Compares (g.F.Shelf.state c.args.shelf.now) (g.F.Shelf.state c.read_on.new.shelf) c.args.self.now c.read_on.new.self (g.S.Sink.state c.args.out.now) (g.S.Sink.state c.read_on.new.out) c.args.text.now c.read_on.new.text)
+    on_err (Compares (g.F.Shelf.state c.args.context.shelf.now) (g.F.Shelf.state c.read_on.new.context.0) c.args.self.now c.read_on.new.self (g.S.Sink.state c.args.context.out.now) (g.S.Sink.state c.read_on.new.context.1.1.0) c.args.context.text.now c.read_on.new.context.1.0)
     c.from_residual-in_err-read_on.result c.from_residual-in_err-read_on.ensures.0 (λ e. record {
-      told = λ asked x y plans given_a given_b. part_kept (told_part now.a now.b (plans_of now plans) prints.ends (told_printed prints (before.told asked x y plans given_a given_b)).to) kept.0;
-      reads = cut.0.reads;
-      slot_a = cut.0.slot_a;
-      slot_b = cut.0.slot_b;
+      told = λ asked x y unread. part_kept (told_part now.a now.b (plans_of now unread.plans) prints.ends (told_printed prints (before.told asked x y unread)).to) reads.here.kept;
+      reads = cut.0;
       counted = cut.1;
-      sink = sink_err (sink_then before.sink (sink_then prints.sink kept.1));
+      sink = sink_err (sink_then before.sink (sink_then prints.sink reads.here.sink));
     })
 
 pub loop-self-smaller : goal.loop-self-smaller
@@ -75,8 +61,8 @@ loop-self-preserved g c =
     let listens = c.in-Some.ensures.open c.in-Some.which refl in
     record {
       amid = amid_on now c.in-Some.which c.in_ok-read_on.field-0 listens c.in_default-2.not-Fault c.in_default-2.not-NoMemory reads;
-      sink = sink_ok tt (sink_then before.sink (sink_then prints.sink (kept_on c.in-Some.which reads).1));
-      told = λ asked x y plans given_a given_b. told_on now c.in-Some.which c.in_ok-read_on.field-0 listens prints.ends c.in_default-2.not-Fault c.in_default-2.not-NoMemory reads (told_printed prints (before.told asked x y plans given_a given_b)).to;
+      sink = sink_ok tt (sink_then before.sink (sink_then prints.sink reads.here.sink));
+      told = λ asked x y unread. told_on now c.in-Some.which c.in_ok-read_on.field-0 listens prints.ends c.in_default-2.not-Fault c.in_default-2.not-NoMemory reads (told_printed prints (before.told asked x y unread)).to;
     }
 
 pub returns-in-Fault : goal.returns-in-Fault
@@ -88,12 +74,10 @@ returns-in-Fault g c =
     let listens = c.in-Some.ensures.open c.in-Some.which refl in
     let over = fault_on now c.in-Some.which listens reads in
     record {
-      told = λ asked x y plans given_a given_b. told_fault now c.in-Some.which (sym c.in-Some.ensures.wanted) listens prints.ends (plans_of now plans) reads (told_printed prints (before.told asked x y plans given_a given_b));
-      reads = over.0.reads;
-      slot_a = over.0.slot_a;
-      slot_b = over.0.slot_b;
+      told = λ asked x y unread. told_fault now c.in-Some.which (sym c.in-Some.ensures.wanted) listens prints.ends (plans_of now unread.plans) reads (told_printed prints (before.told asked x y unread));
+      reads = over.0;
       counted = over.1;
-      sink = sink_ok _ (sink_then before.sink (sink_then prints.sink (kept_on c.in-Some.which reads).1));
+      sink = sink_ok _ (sink_then before.sink (sink_then prints.sink reads.here.sink));
     }
 
 pub returns-in-NoMemory : goal.returns-in-NoMemory
@@ -104,12 +88,9 @@ returns-in-NoMemory g c =
     let reads = rw c.in-NoMemory.is at c.in_ok-read_on.ensures in
     let listens = c.in-Some.ensures.open c.in-Some.which refl in
     let over = memory_on now c.in-Some.which listens reads in
-    let kept = kept_on c.in-Some.which reads in
     record {
-      told = λ asked x y plans given_a given_b. part_kept (told_part now.a now.b (plans_of now plans) prints.ends (told_printed prints (before.told asked x y plans given_a given_b)).to) kept.0;
-      reads = over.0.reads;
-      slot_a = over.0.slot_a;
-      slot_b = over.0.slot_b;
+      told = λ asked x y unread. part_kept (told_part now.a now.b (plans_of now unread.plans) prints.ends (told_printed prints (before.told asked x y unread)).to) reads.here.kept;
+      reads = over.0;
       counted = over.1;
-      sink = sink_ok _ (sink_then before.sink (sink_then prints.sink kept.1));
+      sink = sink_ok _ (sink_then before.sink (sink_then prints.sink reads.here.sink));
     }

@@ -12,7 +12,6 @@ returns-in-Err g c =
     record {
       told = tt;
       begun = tt;
-      plans = tt;
       opened = tt;
       refused = second (λ files told. let x = a.begun files told in subst IsSome (sym x.1) refl) (second_refused a.tries.opened b.tries.refused c.close.ensures)
           (refused_around (g.F.Shelf.state c.args.shelf.now) (g.F.Shelf.state c.open.new.shelf) (g.F.Shelf.state c.open-2.new.shelf) (g.F.Shelf.state c.close.new.shelf) a.tries.opened.files a.tries.counted.ok c.close.ensures.reading b.tries.missing b.tries.counted);
@@ -26,7 +25,6 @@ returns-in_default g c =
     record {
       told = tt;
       begun = tt;
-      plans = tt;
       opened = tt;
       refused = second (λ files told. let x = a.begun files told in subst IsSome (sym x.1) refl)
           (both_closed opens (two_begun _ _ _ opens.live) (closes_both _ _ opens.live c.close-in_default.ensures c.close-in_default-2.ensures))
@@ -49,15 +47,17 @@ returns g c =
             bytes_b = y.0;
             is_a = x.1;
             is_b = sym (mid.2 _) ∙ y.1;
-            given_a = given_kept (g.F.Shelf.state c.open.new.shelf) (g.F.Shelf.state c.open-2.new.shelf) (b.tries.opened.others _ opens.live.apart) x.2;
-            given_b = y.2;
+            unread = record {
+              plans = rw c.plan.ensures at begun.plan;
+              given_a = given_kept (g.F.Shelf.state c.open.new.shelf) (g.F.Shelf.state c.open-2.new.shelf) (b.tries.opened.others _ opens.live.apart) x.2;
+              given_b = y.2;
+            };
           };
       begun = record {
         a = record { going = a.going.0; unended = refl; bounded = omega (arith, a.going.1, c.requires.limit); none = begun.none_a; listens = begun.going.0 };
         b = record { going = b.going.0; unended = refl; bounded = omega (arith, b.going.1, c.requires.limit); none = begun.none_b; listens = begun.going.1 };
         stands = begun.stands;
       };
-      plans = begun.plan;
       opened = opens;
       refused = tt;
     }
