@@ -24,8 +24,17 @@ use avtp_words::{Gateway, GatewayFormat};
 use capture_hearing::{Hearing, Stage};
 use capture_io::{CaptureWriter, End, Source};
 use listener::RecordListener;
-use run_report::{Status, plan, print_side, print_unopened, unmade};
+use run_report::{Context, Status, plan, print_side, print_unopened, unmade};
 use std::alloc::Global;
+
+/// The end of a conversion: how the reading ended, how many batches were presented, and the gateway that they were given
+/// to.
+#[derive(Drop)]
+struct Ending<'a> {
+    end: End,
+    presented: u64,
+    gateway: &'a am824_gateway::Gateway,
+}
 
 /// The format that the words ask for, in the gateway's own type.
 pub fn format(asked: GatewayFormat) -> To
@@ -43,15 +52,14 @@ pub fn format(asked: GatewayFormat) -> To
 pub fn gateway<F: Shelf, S: Sink>(
     alloc: Global,
     asked: &Gateway<'_>,
-    shelf: &mut F,
-    text: &mut Text,
-    out: &mut S,
+    context: Context<'_, '_, '_, F, S>,
 ) -> Result<Status, Failed>
     requires { IsTurning (turning_of asked.now) }
-    ensures { Runs (gateway_task (turning_of asked.now)) HandsNothing false (F.state shelf.old) (F.state shelf.new) (S.state out.old) (S.state out.new) text.old text.new result }
+    ensures { Runs (gateway_task (turning_of asked.now)) HandsNothing false (F.state context.entry.shelf.now) (F.state context.exit.0.now) (S.state context.entry.out.now) (S.state context.exit.1.1.0.now) context.entry.text.now context.exit.1.0.now result }
 {
+    let Context { shelf, text, out } = context;
     match scan(alloc, asked, shelf) {
-        Ok(Scanned::Clean(shape)) => turn(alloc, asked, shape, shelf, text, out),
+        Ok(Scanned::Clean(shape)) => turn(alloc, asked, shape, Context { shelf, text, out }),
         Ok(Scanned::Faulty { fault, frame }) => print_fault(text, out, fault, frame),
         Ok(Scanned::Cut(end)) => print_cut(text, out, asked.listener.limit, end),
         Err(fault) => print_unopened(text, out, fault),
@@ -63,14 +71,13 @@ fn turn<F: Shelf, S: Sink>(
     alloc: Global,
     asked: &Gateway<'_>,
     shape: Option<Shape>,
-    shelf: &mut F,
-    text: &mut Text,
-    out: &mut S,
+    context: Context<'_, '_, '_, F, S>,
 ) -> Result<Status, Failed>
     requires asked { IsTurning (turning_of asked.now) }
     requires shape { IfSome shape IsShape }
-    ensures { TurnsFile (turning_of asked.now) shape (F.state shelf.old) (F.state shelf.new) (S.state out.old) (S.state out.new) text.old text.new result }
+    ensures { TurnsFile (turning_of asked.now) shape (F.state context.entry.shelf.now) (F.state context.exit.0.now) (S.state context.entry.out.now) (S.state context.exit.1.1.0.now) context.entry.text.now context.exit.1.0.now result }
 {
+    let Context { shelf, text, out } = context;
     let listener = &asked.listener;
     let to = format(asked.to);
     let Ok(gateway) = am824_gateway::Gateway::begin(alloc, to, shape, asked.id) else {
@@ -87,8 +94,14 @@ fn turn<F: Shelf, S: Sink>(
         Err(fault) => return Ok(unmade(fault)),
     };
     let mut output = Output { gateway, writer };
-    let turned = turn_input(alloc, asked, heard, &mut output, shelf, text, out);
-    end_output(output, listener.limit, turned, shelf, text, out)
+    let turned = turn_input(
+        alloc,
+        asked,
+        heard,
+        &mut output,
+        Context { shelf, text, out },
+    );
+    end_output(output, listener.limit, turned, Context { shelf, text, out })
 }
 
 /// Opens the scanned capture again, and converts what a listener presents from it.
@@ -97,16 +110,15 @@ fn turn_input<F: Shelf, S: Sink>(
     asked: &Gateway<'_>,
     listener: RecordListener,
     output: &mut Output,
-    shelf: &mut F,
-    text: &mut Text,
-    out: &mut S,
+    context: Context<'_, '_, '_, F, S>,
 ) -> Result<Turned, Failed>
     requires limit { asked.now.listener.limit ≤ 2 ^ 40 }
     requires fresh { IsFresh listener }
-    requires made { IsMadeIn (F.state shelf.old).slots output.old.writer.slot }
+    requires made { IsMadeIn (F.state context.shelf.now).slots output.old.writer.slot }
     requires none { output.old.gateway.given ≡ nothing_given }
-    ensures { TurnsInput (turning_of asked.now) (F.state shelf.old) (F.state shelf.new) listener output.old output.new (S.state out.old) (S.state out.new) text.old text.new result }
+    ensures { TurnsInput (turning_of asked.now) (F.state context.entry.shelf.now) (F.state context.exit.0.now) listener output.old output.new (S.state context.entry.out.now) (S.state context.exit.1.1.0.now) context.entry.text.now context.exit.1.0.now result }
 {
+    let Context { shelf, text, out } = context;
     let source = match Source::open(alloc, asked.listener.limit, shelf, asked.input) {
         Ok(source) => source,
         Err(fault) => return Ok(unread(fault)),
@@ -142,17 +154,23 @@ fn end_output<F: Shelf, S: Sink>(
     output: Output,
     limit: u64,
     turned: Result<Turned, Failed>,
-    shelf: &mut F,
-    text: &mut Text,
-    out: &mut S,
+    context: Context<'_, '_, '_, F, S>,
 ) -> Result<Status, Failed>
-    requires { IsMadeIn (F.state shelf.old).slots output.writer.slot }
-    ensures { EndsOutput limit turned (F.state shelf.old) (F.state shelf.new) output (S.state out.old) (S.state out.new) text.old text.new result }
+    requires { IsMadeIn (F.state context.shelf.now).slots output.writer.slot }
+    ensures { EndsOutput limit turned (F.state context.entry.shelf.now) (F.state context.exit.0.now) output (S.state context.entry.out.now) (S.state context.exit.1.1.0.now) context.entry.text.now context.exit.1.0.now result }
 {
+    let Context { shelf, text, out } = context;
     let Output { gateway, writer } = output;
     match turned {
         Ok(Turned::Ended { end, presented }) => match writer.finish(shelf) {
-            Ok(()) => print_ended(text, out, limit, end, presented, &gateway),
+            Ok(()) => {
+                let ending = Ending {
+                    end,
+                    presented,
+                    gateway: &gateway,
+                };
+                print_ended(text, out, limit, ending)
+            }
             Err(Failed) => Ok(Status::WriteFault),
         },
         Ok(Turned::NoMemory) => {
@@ -176,12 +194,15 @@ fn print_ended<S: Sink>(
     text: &mut Text,
     out: &mut S,
     limit: u64,
-    end: End,
-    presented: u64,
-    gateway: &am824_gateway::Gateway,
+    ending: Ending<'_>,
 ) -> Result<Status, Failed>
-    ensures { EndsWith (turned_status (presented - gateway.now.given.batches) end) (S.state out.old) (S.state out.new) text.old text.new result (ended_line limit presented gateway.now end) }
+    ensures { EndsWith (turned_status (ending.entry.presented - ending.entry.gateway.now.given.batches) ending.entry.end) (S.state out.old) (S.state out.new) text.old text.new result (ended_line limit ending.entry.presented ending.entry.gateway.now ending.entry.end) }
 {
+    let Ending {
+        end,
+        presented,
+        gateway,
+    } = ending;
     let skipped = presented.saturating_sub(gateway.batches());
     match end {
         End::Whole => text.gateway(out, presented, gateway.packets(), skipped)?,

@@ -22,7 +22,7 @@ use avtp_files::{Shelf, Sink};
 use avtp_text::Text;
 use avtp_words::{Crf, Kind, Talk};
 use capture_io::{CaptureWriter, Contents, Stop, read_contents};
-use run_report::{Status, print_fault, print_unopened, unmade};
+use run_report::{Context, Status, print_fault, print_unopened, unmade};
 use std::alloc::Global;
 use talker::{CrfPlan, TalkFault, TalkKind, TalkPlan, Talker, Turn};
 
@@ -99,22 +99,19 @@ fn plan(asked: &Talk<'_>) -> TalkPlan
 pub fn talk<F: Shelf, S: Sink>(
     alloc: Global,
     asked: &Talk<'_>,
-    shelf: &mut F,
-    text: &mut Text,
-    out: &mut S,
+    context: Context<'_, '_, '_, F, S>,
 ) -> Result<Status, Failed>
     requires { IsPlan (talk_plan (talking_of asked.now)) }
-    ensures { Runs (talk_task (talking_of asked.now)) HandsNothing false (F.state shelf.old) (F.state shelf.new) (S.state out.old) (S.state out.new) text.old text.new result }
+    ensures { Runs (talk_task (talking_of asked.now)) HandsNothing false (F.state context.entry.shelf.now) (F.state context.exit.0.now) (S.state context.entry.out.now) (S.state context.exit.1.1.0.now) context.entry.text.now context.exit.1.0.now result }
 {
+    let Context { shelf, text, out } = context;
     match read_contents(alloc, LIMIT, shelf, asked.input) {
         Ok(contents) => talk_contents(
             alloc,
             plan(asked),
             &contents,
             asked.output,
-            shelf,
-            text,
-            out,
+            Context { shelf, text, out },
         ),
         Err(fault) => print_unopened(text, out, fault),
     }
@@ -126,19 +123,18 @@ fn talk_contents<F: Shelf, S: Sink>(
     plan: TalkPlan,
     contents: &Contents,
     output: &str,
-    shelf: &mut F,
-    text: &mut Text,
-    out: &mut S,
+    context: Context<'_, '_, '_, F, S>,
 ) -> Result<Status, Failed>
     requires plan { IsPlan plan }
     requires bounded { length contents.now.bytes.items ≤ most_input }
-    ensures { TalksContents plan contents.now output.now (F.state shelf.old) (F.state shelf.new) (S.state out.old) (S.state out.new) text.old text.new result }
+    ensures { TalksContents plan contents.now output.now (F.state context.entry.shelf.now) (F.state context.exit.0.now) (S.state context.entry.out.now) (S.state context.exit.1.1.0.now) context.entry.text.now context.exit.1.0.now result }
 {
+    let Context { shelf, text, out } = context;
     match contents.stop {
         Stop::Fault => print_fault(text, out),
         Stop::Limit => print_limit(text, out),
         Stop::End => match Talker::begin(alloc, plan, contents.bytes.as_slice()) {
-            Ok(mut talker) => send(alloc, &mut talker, output, shelf, text, out),
+            Ok(mut talker) => send(alloc, &mut talker, output, Context { shelf, text, out }),
             Err(fault) => print_talk_fault(text, out, fault),
         },
     }
@@ -149,13 +145,12 @@ fn send<F: Shelf, S: Sink>(
     alloc: Global,
     talker: &mut Talker<'_>,
     output: &str,
-    shelf: &mut F,
-    text: &mut Text,
-    out: &mut S,
+    context: Context<'_, '_, '_, F, S>,
 ) -> Result<Status, Failed>
     requires begun { talker.old.given ≡ 0 }
-    ensures { Talks (Only Status.Done (sent_line talker.old.plan talker.old.input)) output.now (capture talker.old.plan talker.old.input) (F.state shelf.old) (F.state shelf.new) (S.state out.old) (S.state out.new) text.old text.new result }
+    ensures { Talks (Only Status.Done (sent_line talker.old.plan talker.old.input)) output.now (capture talker.old.plan talker.old.input) (F.state context.entry.shelf.now) (F.state context.exit.0.now) (S.state context.entry.out.now) (S.state context.exit.1.1.0.now) context.entry.text.now context.exit.1.0.now result }
 {
+    let Context { shelf, text, out } = context;
     let packets = talker.packets();
     let clocks = talker.clocks();
     match make_capture(alloc, shelf, output, talker) {

@@ -18,5 +18,5 @@ returns-in-Err g c = rw c.unmade.ensures (turns_unmade (turning_of c.args.asked.
 pub returns : goal.returns
 returns g c =
     let asked = turning_of c.args.asked.now in
-    turns_file (g.F.Shelf.state c.end_output.new.shelf) (g.S.Sink.state c.end_output.new.out) c.end_output.new.text c.end_output.result asked c.args.shape c.requires.asked.apart c.in-Ok-create.ensures c.turn_input-turned.ensures c.end_output.ensures
+    turns_file (g.F.Shelf.state c.end_output.new.context.0) (g.S.Sink.state c.end_output.new.context.1.1.0) c.end_output.new.context.1.0 c.end_output.result asked c.args.shape c.requires.asked.apart c.in-Ok-create.ensures c.turn_input-turned.ensures c.end_output.ensures
     (put_none asked c.args.shape c.format-to.ensures c.in-Ok.ensures) c.in-Ok-begin.ensures.stands c.in-Ok-begin.ensures.open (c.in-Ok-begin.ensures.plan ∙ c.plan.ensures)
