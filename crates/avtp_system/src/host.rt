@@ -21,6 +21,8 @@ impl System<FileSink<HostRuntime>> for Host {
 
     ghost path = { λ host file. [] };
 
+    ghost others = { λ host file. [] };
+
     fn words(&self) -> Result<Vec<String>, Status> {
         let arguments = match env::args(&self.rt) {
             Ok(arguments) => arguments,

@@ -1,9 +1,9 @@
 //! A program over any system.
 
-ghost use Rattle.std.specs.Prelude.{◌≡◌, IfOk, IfSome, IsSome};
+ghost use Rattle.std.specs.Prelude.{◌≡◌, IfOk, IfSome, IsSome, option_map};
 ghost use Rattle.avtp_words.specs.Grammar.{IsCommandLine, listen as listen_request, listening_of, named_file, named_raw, Request};
 ghost use Rattle.option_words.specs.Word.{texts};
-ghost use Rattle.avtp_system.specs.Program.{AreAsked, HasEnded, WritesRaw, WritesUnits};
+ghost use Rattle.avtp_system.specs.Program.{AreAsked, HasEnded, WritesRaw, WritesUnits, names_apart};
 
 use crate::system::System;
 use avtp_base::NoMemory;
@@ -24,7 +24,7 @@ pub fn run_over<
     F: Shelf + Send,
     O: Sink + Send,
 >(threads: &T, alloc: Global, system: &Y, shelf: &mut F, out: &mut O) -> Status
-    ensures { IfSome (Y.told system.now) (λ arguments. HasEnded (Y.path system.now) S.state arguments (shelf.new ≡ shelf.old) ((shelf.new ≡ shelf.old) × (out.new ≡ out.old))
+    ensures { IfSome (Y.told system.now) (λ arguments. HasEnded (Y.path system.now) (Y.others system.now) S.state arguments (shelf.new ≡ shelf.old) ((shelf.new ≡ shelf.old) × (out.new ≡ out.old))
         (F.state shelf.old) (F.state shelf.new) (O.state out.old) (O.state out.new) result) }
 {
     let words = match system.words() {
@@ -43,7 +43,7 @@ fn outputs_for<S: Sink + Drop, Y: System<S>>(
     system: &Y,
     words: &[String],
 ) -> Result<OutputFiles<S>, NoMemory>
-    ensures { IsSome (Y.told system.now) → IfOk result (λ outputs. (request : Request) → IsCommandLine (texts words.now) request → AreAsked (Y.path system.now) S.state request outputs) }
+    ensures { IsSome (Y.told system.now) → IfOk result (λ outputs. (request : Request) → IsCommandLine (texts words.now) request → AreAsked (Y.path system.now) (Y.others system.now) S.state request outputs) }
 {
     let Ok(command) = parse(words) else {
         return Ok(OutputFiles::over(None, None));
@@ -60,7 +60,7 @@ fn outputs_of<S: Sink + Drop, Y: System<S>>(
     system: &Y,
     asked: &Listen<'_>,
 ) -> Result<OutputFiles<S>, NoMemory>
-    ensures { IsSome (Y.told system.now) → IfOk result (λ outputs. AreAsked (Y.path system.now) S.state (listen_request (listening_of asked.now)) outputs) }
+    ensures { IsSome (Y.told system.now) → IfOk result (λ outputs. AreAsked (Y.path system.now) (Y.others system.now) S.state (listen_request (listening_of asked.now)) outputs) }
 {
     let raw = match asked.raw {
         Some(raw) => Some(raw_device(alloc, system, asked, raw)?),
@@ -79,9 +79,10 @@ fn raw_device<S: Sink + Drop, Y: System<S>>(
     asked: &Listen<'_>,
     raw: RawFile<'_>,
 ) -> Result<RawDevice<S>, NoMemory>
-    ensures { IsSome (Y.told system.now) → IfOk result (λ device. WritesRaw (Y.path system.now) S.state (named_raw raw.entry) device) }
+    ensures { IsSome (Y.told system.now) → IfOk result (λ device. WritesRaw (Y.path system.now) (Y.others system.now) S.state (listening_of asked.now) (named_raw raw.entry) device) }
 {
-    let file = system.file(raw.file.name, other_files(alloc, asked, raw.file.name)?)?;
+    let apart = file_names(alloc, asked.files, asked.annexb)?;
+    let file = system.file(raw.file.name, apart)?;
     Ok(RawDevice::over(file, raw_silence(raw.silence)))
 }
 
@@ -91,25 +92,29 @@ fn units_device<S: Sink + Drop, Y: System<S>>(
     asked: &Listen<'_>,
     units: DeviceFile<'_>,
 ) -> Result<AnnexBDevice<S>, NoMemory>
-    ensures { IsSome (Y.told system.now) → IfOk result (λ device. WritesUnits (Y.path system.now) S.state (named_file units.entry) device) }
+    ensures { IsSome (Y.told system.now) → IfOk result (λ device. WritesUnits (Y.path system.now) (Y.others system.now) S.state (listening_of asked.now) (named_file units.entry) device) }
 {
-    let file = system.file(units.name, other_files(alloc, asked, units.name)?)?;
+    let apart = file_names(alloc, asked.files, asked.raw.map(|raw| raw.file))?;
+    let file = system.file(units.name, apart)?;
     Ok(AnnexBDevice::over(file))
 }
 
-/// The names of all files that must differ from the device's file `name`: the captures that `listen` reads, and the
-/// file of its other device, if any.
-fn other_files(alloc: Global, asked: &Listen<'_>, name: &str) -> Result<Vec<String>, NoMemory> {
-    let mut others = Vec::new(alloc);
-    for file in asked.files {
-        others.push(file.clone()?)?;
+/// The names of the files that a device's file must differ from: the captures that `listen` reads, and the file of its
+/// other device, if any.
+fn file_names(
+    alloc: Global,
+    captures: &[String],
+    other: Option<DeviceFile<'_>>,
+) -> Result<Vec<String>, NoMemory>
+    ensures { IfOk result (λ names. texts names.items ≡ names_apart (texts captures.now) (option_map named_file other.entry)) }
+{
+    let mut names = Vec::new(alloc);
+    for capture in captures {
+        names.push(capture.clone()?)?;
     }
-    for device in [asked.raw.map(|raw| raw.file), asked.annexb] {
-        if let Some(file) = device
-            && file.name != name
-        {
-            others.push(String::from_str(alloc, file.name)?)?;
-        }
-    }
-    Ok(others)
+    let Some(file) = other else {
+        return Ok(names);
+    };
+    names.push(String::from_str(alloc, file.name)?)?;
+    Ok(names)
 }

@@ -16,6 +16,9 @@ pub trait System<S> {
     /// The path of a file, if the system shows its arguments.
     ghost path: { Self → S → List ℕ };
 
+    /// The paths of the files that a file must differ from, if the system shows its arguments.
+    ghost others: { Self → S → List (List ℕ) };
+
     /// The arguments after the program's name.
     ///
     /// A system that shows its arguments fails only if memory runs out. Any other system returns `Words` if an argument is not
@@ -27,5 +30,6 @@ pub trait System<S> {
     /// The file with the path `name`. The file must differ from the files with the paths `apart`. The file is created
     /// when it is first written to.
     fn file(&self, name: &str, apart: Vec<String>) -> Result<S, NoMemory>
-        ensures { IsSome (told self.now) → IfOk result (λ file. path self.now file ≡ name.now) };
+        ensures named { IsSome (told self.now) → IfOk result (λ file. path self.now file ≡ name.now) }
+        ensures apart { IsSome (told self.now) → IfOk result (λ file. others self.now file ≡ texts apart.items) };
 }

@@ -46,6 +46,8 @@ impl System<Counting> for Arguments {
 
     ghost path = { λ arguments file. [] };
 
+    ghost others = { λ arguments file. [] };
+
     fn words(&self) -> Result<Vec<String>, Status> {
         let line = self.line.ok_or(Status::Memory)?;
         words_of(self.alloc, line).map_err(|_| Status::Memory)
