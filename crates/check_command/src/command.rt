@@ -14,7 +14,7 @@ use avtp_base::Failed;
 use avtp_files::{Shelf, Sink};
 use avtp_text::Text;
 use capture_io::{End, Source};
-use run_report::{Status, next_record, print_unopened};
+use run_report::{Context, Status, next_record, print_unopened};
 use sequence_track::{Findings, Tracker};
 use std::alloc::Global;
 
@@ -33,13 +33,12 @@ pub fn check<F: Shelf, S: Sink>(
     alloc: Global,
     limit: u64,
     file: &str,
-    shelf: &mut F,
-    text: &mut Text,
-    out: &mut S,
+    context: Context<'_, '_, '_, F, S>,
 ) -> Result<Status, Failed>
     requires { limit ≤ 2 ^ 40 }
-    ensures { DoesFile (check_report limit file.now) HandsNothing limit file.now (F.state shelf.old) (F.state shelf.new) (S.state out.old) (S.state out.new) text.old text.new result }
+    ensures { DoesFile (check_report limit file.now) HandsNothing limit file.now (F.state context.entry.shelf.now) (F.state context.exit.0.now) (S.state context.entry.out.now) (S.state context.exit.1.1.0.now) context.entry.text.now context.exit.1.0.now result }
 {
+    let Context { shelf, text, out } = context;
     let mut source = match Source::open(alloc, limit, shelf, file) {
         Ok(source) => source,
         Err(fault) => return print_unopened(text, out, fault),
@@ -48,12 +47,9 @@ pub fn check<F: Shelf, S: Sink>(
         source.close(shelf);
         return Ok(Status::Memory);
     };
-    let checked = check_records(file, tracker, &mut source, shelf, text, out);
+    let checked = check_records(file, tracker, &mut source, Context { shelf, text, out });
     source.close(shelf);
-    match checked {
-        Ok(total) => print_total(text, out, limit, total),
-        Err(Failed) => Err(Failed),
-    }
+    print_total(text, out, limit, checked?)
 }
 
 /// Prints a capture's name and the findings in each of its records, in order, as far as the capture can be read.
@@ -61,14 +57,13 @@ fn check_records<F: Shelf, S: Sink>(
     file: &str,
     mut tracker: Tracker,
     source: &mut Source,
-    shelf: &mut F,
-    text: &mut Text,
-    out: &mut S,
+    context: Context<'_, '_, '_, F, S>,
 ) -> Result<Total, Failed>
-    requires open { IsOpen (F.state shelf.old).slots source.old }
+    requires open { IsOpen (F.state context.shelf.now).slots source.old }
     requires stands { StandsFor tracker [] }
-    ensures { ReadsRecords (λ limit. ChecksRecords limit file.now) (λ t. t.end) (F.state shelf.old) (F.state shelf.new) source.old source.new (S.state out.old) (S.state out.new) text.old text.new result }
+    ensures { ReadsRecords (λ limit. ChecksRecords limit file.now) (λ t. t.end) (F.state context.entry.shelf.now) (F.state context.exit.0.now) source.old source.new (S.state context.entry.out.now) (S.state context.exit.1.1.0.now) context.entry.text.now context.exit.1.0.now result }
 {
+    let Context { shelf, text, out } = context;
     text.capture(out, file)?;
     let mut frames = 0;
     let mut findings = 0;
