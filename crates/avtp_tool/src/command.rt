@@ -22,7 +22,7 @@ use avtp_words::{Command, parse};
 use device_rack::Devices;
 use gateway_command::gateway;
 use presenter_ring::Gate;
-use run_report::Status;
+use run_report::{Context, Machine, Status};
 use std::alloc::Global;
 use std::thread::Threads;
 use talk_command::talk;
@@ -48,47 +48,48 @@ pub fn run<T: Threads + Sync, F: Shelf + Send, S: Sink + Send, G: Gate, D: Devic
     let Ok(mut text) = Text::new(alloc) else {
         return Status::Memory;
     };
-    let ended = execute(rt, alloc, words, shelf, &mut text, out, gate, rack);
+    let machine = Machine { rt, alloc, gate };
+    let context = Context {
+        shelf,
+        text: &mut text,
+        out,
+    };
+    let ended = execute(&machine, words, context, rack);
     finish(&mut text, out, ended)
 }
 
 /// Does what the words ask for. If the words are not a command line, prints the position of the first wrong word.
 fn execute<T: Threads + Sync, F: Shelf + Send, S: Sink + Send, G: Gate, D: Devices + Send>(
-    rt: &T,
-    alloc: Global,
+    machine: &Machine<'_, T, G>,
     words: &[String],
-    shelf: &mut F,
-    text: &mut Text,
-    out: &mut S,
-    gate: &G,
+    context: Context<'_, '_, '_, F, S>,
     rack: &mut D,
 ) -> Result<Status, Failed>
-    ensures runs { (request : Request) → IsCommandLine (texts words.now) request → Runs (task_of request) (HandsOn D.handed rack.old rack.new) (nat_lt (D.failures rack.old) (D.failures rack.new)) (F.state shelf.old) (F.state shelf.new) (S.state out.old) (S.state out.new) text.old text.new result }
+    ensures runs { (request : Request) → IsCommandLine (texts words.now) request → Runs (task_of request) (HandsOn D.handed rack.old rack.new) (nat_lt (D.failures rack.old) (D.failures rack.new)) (F.state context.entry.shelf.now) (F.state context.exit.0.now) (S.state context.entry.out.now) (S.state context.exit.1.1.0.now) context.entry.text.now context.exit.1.0.now result }
     ensures words { (position : ℕ) → IsOffence (texts words.now) position →
-        (shelf.new ≡ shelf.old) × (rack.new ≡ rack.old) × EndsWith Status.Words (S.state out.old) (S.state out.new) text.old text.new result (words_line position) }
+        (context.exit.0.now ≡ context.entry.shelf.now) × (rack.new ≡ rack.old) × EndsWith Status.Words (S.state context.entry.out.now) (S.state context.exit.1.1.0.now) context.entry.text.now context.exit.1.0.now result (words_line position) }
     ensures either { IsAsked (texts words.now) }
     ensures devices { (request : Request) → IsCommandLine (texts words.now) request → is_listening request ≡ false → rack.new ≡ rack.old }
-    ensures sink { KeepsSink (S.state out.old) (S.state out.new) result }
+    ensures sink { KeepsSink (S.state context.entry.out.now) (S.state context.exit.1.1.0.now) result }
 {
+    let alloc = machine.alloc;
     match parse(words) {
-        Ok(Command::Show { limit, file }) => show(alloc, limit, file, shelf, text, out),
-        Ok(Command::Check { limit, files }) => read_files(
-            rt,
-            alloc,
-            &Reading::Check { limit },
-            files,
-            shelf,
-            text,
-            out,
-            gate,
-            rack,
-        ),
-        Ok(Command::Listen(asked)) => hear_files(rt, alloc, &asked, shelf, text, out, gate, rack),
-        Ok(Command::Talk(asked)) => talk(alloc, &asked, shelf, text, out),
-        Ok(Command::Soak { packets }) => soak(rt, alloc, packets, text, out),
-        Ok(Command::Agree(asked)) => agree(alloc, &asked, shelf, text, out),
-        Ok(Command::Gateway(asked)) => gateway(alloc, &asked, shelf, text, out),
-        Err(offence) => print_offence(text, out, offence.position as u64),
+        Ok(Command::Show { limit, file }) => show(alloc, limit, file, context),
+        Ok(Command::Check { limit, files }) => {
+            read_files(machine, &Reading::Check { limit }, files, context, rack)
+        }
+        Ok(Command::Listen(asked)) => hear_files(machine, &asked, context, rack),
+        Ok(Command::Talk(asked)) => talk(alloc, &asked, context),
+        Ok(Command::Soak { packets }) => {
+            let Context { text, out, .. } = context;
+            soak(machine.rt, alloc, packets, text, out)
+        }
+        Ok(Command::Agree(asked)) => agree(alloc, &asked, context),
+        Ok(Command::Gateway(asked)) => gateway(alloc, &asked, context),
+        Err(offence) => {
+            let Context { text, out, .. } = context;
+            print_offence(text, out, offence.position as u64)
+        }
     }
 }
 

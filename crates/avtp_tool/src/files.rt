@@ -20,8 +20,7 @@ use check_command::check;
 use device_rack::Devices;
 use listen_command::listen;
 use presenter_ring::Gate;
-use run_report::Status;
-use std::alloc::Global;
+use run_report::{Context, Machine, Status};
 use std::thread::Threads;
 
 /// What is done with each file.
@@ -36,23 +35,20 @@ pub enum Reading<'a> {
 /// Reads the files in order, and does with each file what is asked for. The first file that cannot be read to its end
 /// ends the run.
 pub fn read_files<T: Threads + Sync, F: Shelf + Send, S: Sink + Send, G: Gate, D: Devices + Send>(
-    rt: &T,
-    alloc: Global,
+    machine: &Machine<'_, T, G>,
     reading: &Reading<'_>,
     files: &[String],
-    shelf: &mut F,
-    text: &mut Text,
-    out: &mut S,
-    gate: &G,
+    context: Context<'_, '_, '_, F, S>,
     rack: &mut D,
 ) -> Result<Status, Failed>
     requires { IsReading reading.now }
     ensures kept { is_hearing reading.now ≡ false → rack.new ≡ rack.old }
-    ensures does { DoesFiles (plan_for reading.now (texts files.now)) (HandsOn D.handed rack.old rack.new) (F.state shelf.old) (F.state shelf.new) (S.state out.old) (S.state out.new) text.old text.new result }
+    ensures does { DoesFiles (plan_for reading.now (texts files.now)) (HandsOn D.handed rack.old rack.new) (F.state context.entry.shelf.now) (F.state context.exit.0.now) (S.state context.entry.out.now) (S.state context.exit.1.1.0.now) context.entry.text.now context.exit.1.0.now result }
 {
+    let Context { shelf, text, out } = context;
     let mut ended = Status::Done;
     for file in files {
-        match read_file(rt, alloc, reading, file, shelf, text, out, gate, rack)? {
+        match read_file(machine, reading, file, Context { shelf, text, out }, rack)? {
             Status::Done => {}
             Status::Findings => ended = Status::Findings,
             other => return Ok(other),
@@ -63,40 +59,32 @@ pub fn read_files<T: Threads + Sync, F: Shelf + Send, S: Sink + Send, G: Gate, D
 
 /// Listens to the files in order. If all files were read to their ends and a device failed, the last line says so.
 pub fn hear_files<T: Threads + Sync, F: Shelf + Send, S: Sink + Send, G: Gate, D: Devices + Send>(
-    rt: &T,
-    alloc: Global,
+    machine: &Machine<'_, T, G>,
     asked: &Listen<'_>,
-    shelf: &mut F,
-    text: &mut Text,
-    out: &mut S,
-    gate: &G,
+    context: Context<'_, '_, '_, F, S>,
     rack: &mut D,
 ) -> Result<Status, Failed>
     requires { IsListening (listening_of asked.now) }
-    ensures { Runs (task_of (listen_request (listening_of asked.now))) (HandsOn D.handed rack.old rack.new) (nat_lt (D.failures rack.old) (D.failures rack.new)) (F.state shelf.old) (F.state shelf.new) (S.state out.old) (S.state out.new) text.old text.new result }
+    ensures { Runs (task_of (listen_request (listening_of asked.now))) (HandsOn D.handed rack.old rack.new) (nat_lt (D.failures rack.old) (D.failures rack.new)) (F.state context.entry.shelf.now) (F.state context.exit.0.now) (S.state context.entry.out.now) (S.state context.exit.1.1.0.now) context.entry.text.now context.exit.1.0.now result }
 {
+    let Context { shelf, text, out } = context;
     let failed = rack.count_failed();
     let reading = Reading::Listen(asked);
     let ended = read_files(
-        rt,
-        alloc,
+        machine,
         &reading,
         asked.files,
-        shelf,
-        text,
-        out,
-        gate,
+        Context { shelf, text, out },
         rack,
     )?;
     match ended {
-        Status::Done => {
-            if failed < rack.count_failed() {
-                return print_device_fault(text, out);
-            }
-            Ok(Status::Done)
-        }
-        other => Ok(other),
+        Status::Done => {}
+        other => return Ok(other),
     }
+    if failed < rack.count_failed() {
+        return print_device_fault(text, out);
+    }
+    Ok(Status::Done)
 }
 
 /// Prints that a device failed.
@@ -109,22 +97,18 @@ fn print_device_fault<S: Sink>(text: &mut Text, out: &mut S) -> Result<Status, F
 
 /// Reads a file, and does with it what is asked for.
 fn read_file<T: Threads + Sync, F: Shelf + Send, S: Sink + Send, G: Gate, D: Devices + Send>(
-    rt: &T,
-    alloc: Global,
+    machine: &Machine<'_, T, G>,
     reading: &Reading<'_>,
     file: &str,
-    shelf: &mut F,
-    text: &mut Text,
-    out: &mut S,
-    gate: &G,
+    context: Context<'_, '_, '_, F, S>,
     rack: &mut D,
 ) -> Result<Status, Failed>
     requires { IsReading reading.now }
     ensures kept { is_hearing reading.now ≡ false → rack.new ≡ rack.old }
-    ensures does { DoesFile (report_for reading.now file.now) (HandsOn D.handed rack.old rack.new) (limit_for reading.now) file.now (F.state shelf.old) (F.state shelf.new) (S.state out.old) (S.state out.new) text.old text.new result }
+    ensures does { DoesFile (report_for reading.now file.now) (HandsOn D.handed rack.old rack.new) (limit_for reading.now) file.now (F.state context.entry.shelf.now) (F.state context.exit.0.now) (S.state context.entry.out.now) (S.state context.exit.1.1.0.now) context.entry.text.now context.exit.1.0.now result }
 {
     match reading {
-        Reading::Check { limit } => check(alloc, *limit, file, shelf, text, out),
-        Reading::Listen(asked) => listen(rt, alloc, asked, file, shelf, text, out, gate, rack),
+        Reading::Check { limit } => check(machine.alloc, *limit, file, context),
+        Reading::Listen(asked) => listen(machine, asked, file, context, rack),
     }
 }

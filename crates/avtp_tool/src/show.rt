@@ -13,7 +13,7 @@ use avtp_base::Failed;
 use avtp_files::{Shelf, Sink};
 use avtp_text::Text;
 use capture_io::{End, Source};
-use run_report::{Status, next_record, print_unopened};
+use run_report::{Context, Status, next_record, print_unopened};
 use std::alloc::Global;
 
 /// How many records of a capture were printed, and how its reading ended.
@@ -29,23 +29,19 @@ pub fn show<F: Shelf, S: Sink>(
     alloc: Global,
     limit: u64,
     file: &str,
-    shelf: &mut F,
-    text: &mut Text,
-    out: &mut S,
+    context: Context<'_, '_, '_, F, S>,
 ) -> Result<Status, Failed>
     requires { limit ≤ 2 ^ 40 }
-    ensures { DoesFile (show_report limit) HandsNothing limit file.now (F.state shelf.old) (F.state shelf.new) (S.state out.old) (S.state out.new) text.old text.new result }
+    ensures { DoesFile (show_report limit) HandsNothing limit file.now (F.state context.entry.shelf.now) (F.state context.exit.0.now) (S.state context.entry.out.now) (S.state context.exit.1.1.0.now) context.entry.text.now context.exit.1.0.now result }
 {
+    let Context { shelf, text, out } = context;
     let mut source = match Source::open(alloc, limit, shelf, file) {
         Ok(source) => source,
         Err(fault) => return print_unopened(text, out, fault),
     };
     let printed = print_records(&mut source, shelf, text, out);
     source.close(shelf);
-    match printed {
-        Ok(printed) => print_end(text, out, limit, printed),
-        Err(Failed) => Err(Failed),
-    }
+    print_end(text, out, limit, printed?)
 }
 
 /// Prints each record of an open capture, in order, as far as the capture can be read.

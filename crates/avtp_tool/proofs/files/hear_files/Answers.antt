@@ -13,8 +13,8 @@ pub returns-then-failed-count_failed : goal.returns-then-failed-count_failed
 returns-then-failed-count_failed g c =
     fault_runs (listening_of c.args.asked.now) _ c.read_files.result c.print_device_fault.result (c.in_ok-ended.was ∙ ap (λ (s : Status). Ok s) c.in-Done.is) (less_is c.count_failed-failed.ensures c.count_failed.ensures c.if-failed-count_failed.true) c.print_device_fault.ensures c.read_files.ensures.does
 
-pub returns-else-failed-count_failed : goal.returns-else-failed-count_failed
-returns-else-failed-count_failed g c =
+pub returns : goal.returns
+returns g c =
     plain_runs (listening_of c.args.asked.now) _ c.read_files.result _ (c.in_ok-ended.was ∙ ap (λ (s : Status). Ok s) c.in-Done.is) (λ done. more_is c.count_failed-failed.ensures c.count_failed.ensures c.if-failed-count_failed.false) c.read_files.ensures.does
 
 pub returns-in_default : goal.returns-in_default

@@ -11,6 +11,6 @@ abbrev pub invariant-loop-file : goal.invariant-loop-file
 invariant-loop-file g l =
     record {
       kept : is_hearing l.reading ≡ false → l.rack ≡ l.fn.rack;
-      sink : KeepsSink {T = Unit} (g.S.Sink.state l.fn.out) (g.S.Sink.state l.out) (Ok tt);
-      reads : ReadsTo (plan_for l.reading (texts l.files)) (HandsOn g.D.Devices.handed l.fn.rack l.rack) (take l.file-index (texts l.files)) l.ended (g.F.Shelf.state l.fn.shelf) (g.F.Shelf.state l.shelf) (written (g.S.Sink.state l.fn.out).held l.fn.text) (written (g.S.Sink.state l.out).held l.text);
+      sink : KeepsSink {T = Unit} (g.S.Sink.state l.fn.context.out.now) (g.S.Sink.state l.out) (Ok tt);
+      reads : ReadsTo (plan_for l.reading (texts l.files)) (HandsOn g.D.Devices.handed l.fn.rack l.rack) (take l.file-index (texts l.files)) l.ended (g.F.Shelf.state l.fn.context.shelf.now) (g.F.Shelf.state l.shelf) (written (g.S.Sink.state l.fn.context.out.now).held l.fn.context.text.now) (written (g.S.Sink.state l.out).held l.text);
     }
