@@ -435,7 +435,7 @@ module _ {s t : ShelfState} {first c : Comparing} (amid : IsAmidTwo s t first c)
       told_next [] gave.more was ends go (other_kept asked.listener.limit x was.records_a on.other done.reads apart_a was.a) gave.read
       (subst (λ (l : List Record). StandsFor l (was.records_b ++ gave.more) was.given c'.pair) (sym (append-nil was.records_a)) gave.stands) on.here.kept
 
-  -- the count of reading faults when the reading of a capture ends with a read fault
+  -- if the reading of a capture ends with a read fault, both files are still open, and the count of reading faults rose
   pub fault_on : {u : ShelfState} {c' : Comparing} {h h' : SinkState} {w w' : List ℕ} (which : Which) → is_closed (listener_of which c.pair) ≡ false → ReadsOn which t u c c' h h' w w' (Ok step.Fault) → ReadsBoth s u first c' × Rose s.reading_faults u.reading_faults
   fault_on {u} which listens on =
       let gives = on.here.steps.1 in
