@@ -18,7 +18,6 @@ use avtp_text::Text;
 use capture_hearing::{Heard, Hearing};
 use capture_io::{CaptureWriter, End};
 use presenter_ring::Pull;
-use run_report::write_waiting;
 use sample_schedule::{Batch, Shown};
 use talker::Turn;
 
@@ -146,7 +145,7 @@ fn write_ahead<S: Sink>(hearing: &Hearing, text: &mut Text, out: &mut S) -> Resu
     ensures { WritesWaiting (S.state out.old) (S.state out.new) text.old text.new result }
 {
     if hearing.may_wait() {
-        write_waiting(text, out)
+        text.flush(out)
     } else {
         Ok(())
     }

@@ -26,7 +26,7 @@ use capture_io::{End, Source};
 use device_rack::Devices;
 use listener::{Counts, ListenPlan, RecordListener};
 use presenter_ring::{Gate, Pipe};
-use run_report::{Context, Machine, Status, plan, print_unopened, write_waiting};
+use run_report::{Context, Machine, Status, plan, print_unopened};
 use std::alloc::Global;
 use std::thread::Threads;
 
@@ -90,7 +90,7 @@ fn print_name<S: Sink>(text: &mut Text, out: &mut S, file: &str) -> Result<(), F
     ensures { PrintsPart (S.state out.old) (S.state out.new) text.old text.new result (capture_line file.now) }
 {
     text.capture(out, file)?;
-    write_waiting(text, out)
+    text.flush(out)
 }
 
 /// Prints the items that are shown of a capture's records, as far as the capture can be read.

@@ -8,7 +8,6 @@ use avtp_files::Sink;
 use avtp_text::Text;
 use device_rack::Devices;
 use presenter_ring::Presenter;
-use run_report::write_waiting;
 use sample_schedule::Shown;
 
 /// The text of the shown items, the sink that the text is written to, and the devices, which get each item after its
@@ -48,7 +47,7 @@ impl<'t, 's, 'd, S: Sink + Send, D: Devices + Send> Presenter for Presenting<'t,
         if self.result.is_err() {
             return Ok(());
         }
-        self.result = write_waiting(self.text, self.out);
+        self.result = self.text.flush(self.out);
         self.result
     }
 }

@@ -86,8 +86,8 @@ pub record KeepsSink {T : Type 0} (out out' : SinkState) (result : Result T Fail
   pub grows : Grows out.held out'.held
   pub counted : IsCounted out.faults out'.faults result
 
--- The pending text was written, or a part of it if the sink failed. The bytes that the sink holds, followed by the text
--- that is still pending, are unchanged.
+-- The pending text may have been written, or a part of it. The bytes that the sink holds, followed by the text that is
+-- still pending, are unchanged.
 pub record WritesWaiting (out out' : SinkState) (waits waits' : List ℕ) (result : Result Unit Failed) : Type 0 where
   pub kept : Keeps (written out.held waits) (written out'.held waits')
   pub sink : KeepsSink out out' result

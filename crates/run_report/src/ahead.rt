@@ -35,15 +35,8 @@ fn write_ahead<S: Sink>(source: &Source, text: &mut Text, out: &mut S) -> Result
     ensures { WritesWaiting (S.state out.old) (S.state out.new) text.old text.new result }
 {
     if source.must_read() {
-        write_waiting(text, out)
+        text.flush(out)
     } else {
         Ok(())
     }
-}
-
-/// Writes the pending text.
-pub fn write_waiting<S: Sink>(text: &mut Text, out: &mut S) -> Result<(), Failed>
-    ensures { WritesWaiting (S.state out.old) (S.state out.new) text.old text.new result }
-{
-    text.flush(out)
 }

@@ -8,7 +8,7 @@ mod endings;
 mod frame;
 mod status;
 
-pub use ahead::{next_record, write_waiting};
+pub use ahead::next_record;
 pub use asked::plan;
 pub use context::{Context, Machine};
 pub use endings::{print_fault, print_side, print_unopened, unmade};

@@ -3,5 +3,5 @@ use Rattle.listen_command.proofs.command.print_name.Goals as goal
 
 pub returns : goal.returns
 returns g c =
-    let out = c.write_waiting.ensures in
-    flushed c.write_waiting.result _ c.in_ok-capture.ensures out.kept out.sink.grows out.sink.counted
+    let out = c.flush.ensures in
+    flushed c.flush.result _ c.in_ok-capture.ensures out.written out.grows out.counted
