@@ -2,10 +2,9 @@
 use Rattle.std.proofs.Common.{◌≡◌, Option, Some, None, refl, sym, ap, ◌∙◌, ℕ, List, [], ◌++◌, Ok, Err, subst, append-nil, Result, arith, ◌∷◌, true, false, append_assoc}
 use Rattle.std.specs.Prelude.{IsSome, OnOk, OnErr, is_err}
 use Rattle.std.proofs.lemmas.Grind.{flat_map-append}
-use mathlib.Core.List.{IsPrefix}
 use Rattle.presenter_ring.specs.declared.pipe.Pipe.{Pipe}
 use Rattle.presenter_ring.specs.declared.receiver.Pull.{Pull}
-use Rattle.presenter_ring.specs.Pipes.{ended_with, EndsWith, waiting_in, HasMoved, IsDrained}
+use Rattle.presenter_ring.specs.Pipes.{ended_with, EndsWith}
 use Rattle.sample_schedule.specs.declared.shown.Shown.{Shown}
 use Rattle.avtp_base.specs.declared.failed.Failed.{Failed}
 use Rattle.avtp_base.specs.Faults.{Rose, IsCounted}
@@ -19,7 +18,7 @@ use Rattle.avtp_base.specs.Files.{Open}
 use Rattle.run_report.specs.Outcome.{WritesWaiting}
 use Rattle.capture_hearing.specs.declared.hearing.Stage.{Stage}
 use Rattle.capture_hearing.specs.Hearing.{ended_at, pull_at}
-use Rattle.listen_command.specs.state.Presenting.{HasPassed, failures, GivesItems}
+use Rattle.listen_command.specs.state.Presenting.{failures, GivesItems}
 
 pub ends_on : {R : Type 0} {ended : R → Option Pull} {r r' : R} {a b : Pipe} → ended_with a ≡ ended r → EndsWith ended r r' a b → ended_with b ≡ ended r'
 ends_on {R} {ended} {r} {r'} {a} {b} is with =
@@ -27,37 +26,6 @@ ends_on {R} {ended} {r} {r'} {a} {b} is with =
       | None ↦ λ h. with.ends h
       | Some pull ↦ λ h. let kept = with.stays (rw h refl) in kept.0 ∙ is ∙ ap ended (sym kept.1)
     ] refl
-
--- the items that were given are the presented items followed by the queued items
-split : {R P : Type 0} (gave : R → R → List Shown → Type 0) (left : R → ℕ) (handed : P → P → List Shown → Type 0) (r r' : R) (p p' : P) (a b : Pipe) → waiting_in a ≡ [] → (m : HasMoved gave left handed r r' p p' a b) → m.presented ++ waiting_in b ≡ m.given
-split gave left handed r r' p p' a b empty m = sym m.in_order ∙ ap (λ (l : List Shown). l ++ m.given) empty
-
-module _ {R P : Type 0} {gave : R → R → List Shown → Type 0} {left : R → ℕ} {ended : R → Option Pull} {handed : P → P → List Shown → Type 0} {faults : P → ℕ} {r r' : R} {p p' : P} {a b : Pipe} where
-  pub passed_all : waiting_in a ≡ [] → HasMoved gave left handed r r' p p' a b → IsDrained b → ended_with b ≡ ended r' → faults p' ≡ faults p → HasPassed gave ended handed faults r r' p p' (Ok tt)
-  passed_all empty m drained is quiet =
-      let all = split gave left handed r r' p p' a b empty m in
-      record {
-        given = m.given;
-        presented = m.presented;
-        gives = m.gives;
-        hands = m.hands;
-        first = (waiting_in b, all);
-        whole = (sym (append-nil m.presented) ∙ ap (λ (l : List Shown). m.presented ++ l) (sym drained.empty) ∙ all, subst IsSome is drained.ended);
-        quiet = quiet;
-        rose = tt;
-      }
-
-  pub passed_some : (e : Failed) → waiting_in a ≡ [] → HasMoved gave left handed r r' p p' a b → Rose (faults p) (faults p') → HasPassed gave ended handed faults r r' p p' (Err e)
-  passed_some e empty m rose = record {
-    given = m.given;
-    presented = m.presented;
-    gives = m.gives;
-    hands = m.hands;
-    first = (waiting_in b, split gave left handed r r' p p' a b empty m);
-    whole = tt;
-    quiet = tt;
-    rose = rose;
-  }
 
 -- a presenter that stops after its first failure returns that failure
 pub same_result : (before now result : Result Unit Failed) → before ≡ Ok tt → OnOk result (failures now ≡ failures before) → OnErr result (Rose (failures before) (failures now)) → result ≡ now
@@ -139,14 +107,15 @@ gives_no_more items more (Err e) failed g = record {
   hands = g.hands;
 }
 
--- If the sink failed, let a prefix of the items `given` be presented. If the sink did not fail, let all items of
--- `given` be presented. If `GivesItems` holds for the presented items, it holds for `given`, too.
-pub gives_given : {handed : List Shown → Type 0} {h h' : SinkState} {w w' : List ℕ} (A : Type 0) (presented given : List Shown) (result : Result Unit Failed) → OnOk result ((presented ≡ given) × A) → IsPrefix presented given
-    → GivesItems handed h h' w w' result presented → GivesItems handed h h' w w' result given
-gives_given {handed} {h} {h'} {w} {w'} A presented given (Ok o) whole first g = subst (GivesItems handed h h' w w' (Ok o)) whole.0 g
-gives_given {handed} {h} {h'} {w} {w'} A presented given (Err e) whole first g = subst (GivesItems handed h h' w w' (Err e)) first.1 (gives_no_more presented first.0 (Err e) refl g)
+-- Let all given items be presented, except those that wait in the pipe. If the sink failed, some may wait; if the sink
+-- did not fail, let none wait. If `GivesItems` holds for the presented items, it holds for the given items, too.
+pub gives_given : {handed : List Shown → Type 0} {h h' : SinkState} {w w' : List ℕ} (presented given waiting : List Shown) (now result : Result Unit Failed) → result ≡ now → presented ++ waiting ≡ given → OnOk result (waiting ≡ [])
+    → GivesItems handed h h' w w' now presented → GivesItems handed h h' w w' result given
+gives_given {handed} {h} {h'} {w} {w'} presented given waiting (Ok x) (Ok y) is order empty g = subst (GivesItems handed h h' w w' (Ok y)) (sym (append-nil presented) ∙ ap (λ (l : List Shown). presented ++ l) (sym empty) ∙ order) g
+gives_given {handed} {h} {h'} {w} {w'} presented given waiting (Err e) (Err f) is order empty g = subst (GivesItems handed h h' w w' (Err f)) order (gives_no_more presented waiting (Err f) refl g)
+gives_given presented given waiting (Ok x) (Err e) is order empty g = absurd cc
+gives_given presented given waiting (Err e) (Ok x) is order empty g = absurd cc
 
-pub over_on : (A : Type 0) (file : Option Open) (stage : Stage) (result : Result Unit Failed) → OnOk result (A × IsSome (ended_at file stage)) → IsSome file → OnOk result (IsSome (pull_at stage))
-over_on A None stage result over live = absurd cc
-over_on A (Some file) stage (Ok o) over live = over.1
-over_on A (Some file) stage (Err e) over live = tt
+pub over_at : (file : Option Open) (stage : Stage) → IsSome file → IsSome (ended_at file stage) → IsSome (pull_at stage)
+over_at None stage live over = absurd cc
+over_at (Some file) stage live over = over

@@ -1,6 +1,6 @@
 //! The command `listen`: when each sample of a stream is due.
 
-ghost use Rattle.std.specs.Prelude.{◌≡◌, [], Ok, None};
+ghost use Rattle.std.specs.Prelude.{◌≡◌, [], None};
 ghost use Rattle.avtp_words.specs.Grammar.{listening_of};
 ghost use Rattle.avtp_text.specs.Listen.{capture_line};
 ghost use Rattle.avtp_text.specs.Written.{PrintsPart};
@@ -113,25 +113,7 @@ fn hear_items<T: Threads + Sync, F: Shelf + Send, S: Sink + Send, G: Gate, D: De
         rack,
         result: Ok(()),
     };
-    hear_through(machine, pipe, &mut receiver, &mut presenter)
-}
-
-/// Runs the receiving thread and the presenting thread until everything is done.
-fn hear_through<T: Threads + Sync, F: Shelf + Send, S: Sink + Send, G: Gate, D: Devices + Send>(
-    machine: &Machine<'_, T, G>,
-    pipe: &mut Pipe,
-    receiver: &mut Receiving<'_, '_, F>,
-    presenter: &mut Presenting<'_, '_, '_, S, D>,
-) -> Result<(), Failed>
-    requires pipe { (waiting_in pipe.old ≡ []) × (ended_with pipe.old ≡ None) × (given_to pipe.old ≡ 0) }
-    requires begun { IsAtReading (F.state receiver.old.shelf.now).slots receiver.old.hearing.now.source receiver.old.hearing.now.stage × (presenter.old.result ≡ Ok tt) }
-    ensures same { (receiver.new.shelf.ghost_name ≡ receiver.old.shelf.ghost_name) × (receiver.new.hearing.ghost_name ≡ receiver.old.hearing.ghost_name)
-        × (presenter.new.text.ghost_name ≡ presenter.old.text.ghost_name) × (presenter.new.out.ghost_name ≡ presenter.old.out.ghost_name) × (presenter.new.rack.ghost_name ≡ presenter.old.rack.ghost_name) }
-    ensures hears { HearsItems (HandsOn D.handed presenter.old.rack.now presenter.new.rack.now) (F.state receiver.old.shelf.now) (F.state receiver.new.shelf.now)
-        receiver.old.hearing.now.source receiver.new.hearing.now.source receiver.old.hearing.now.listener receiver.new.hearing.now.listener receiver.new.hearing.now.stage
-        (S.state presenter.old.out.now) (S.state presenter.new.out.now) presenter.old.text.now presenter.new.text.now result }
-{
-    present_all(machine.rt, pipe, receiver, presenter, machine.gate)
+    present_all(machine, pipe, &mut receiver, &mut presenter)
 }
 
 /// Prints the counts of a capture, or why the capture was not read to its end.
