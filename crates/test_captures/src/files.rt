@@ -142,21 +142,40 @@ fn a_sink_in_memory_keeps_what_its_calls_took(rt: HostRuntime) -> Result<(), Fai
     Ok(())
 }
 
+#[test]
+fn a_quiet_sink_takes_all_and_keeps_what_fits(rt: HostRuntime) -> Result<(), Fail> {
+    let mut sink = QuietSink::over(rt.alloc(), 5)?;
+    let mut found = written(rt.alloc(), &mut sink, "abc defg")?;
+    found.push_str(str::from_utf8(sink.bytes()).unwrap_or("no text"))?;
+    assert!(rt; found.as_str() == "Ok(3) Ok(4) abcde", "{found}");
+    Ok(())
+}
+
+/// Writes the piece twice to the file `name`, and then reads the file `other`.
+fn read_after_writes<F: Shelf>(
+    alloc: Global,
+    shelf: &mut F,
+    name: &str,
+    piece: &[u8],
+    other: &str,
+) -> Result<String, Fail>
+    requires { length piece.now ≤ 65536 }
+{
+    let whole = write_twice(alloc, shelf, name, piece)?;
+    let kept = read(alloc, shelf, 9, other)?;
+    Ok(format!(in alloc; "{whole}, {kept}")?)
+}
+
 /// After a write that did not fit, the shelf returns `Memory`, not `Missing`, for the name of a missing file.
 #[test]
-fn a_quiet_end_takes_all_and_keeps_what_fits(rt: HostRuntime) -> Result<(), Fail> {
-    let alloc = rt.alloc();
-    let mut sink = QuietSink::over(alloc, 5)?;
-    let mut found = written(alloc, &mut sink, "abc defg")?;
-    found.push_str(str::from_utf8(sink.bytes()).unwrap_or("no text"))?;
-    let mut shelf = QuietShelf::over(alloc, Vec::new(alloc), 3);
-    let before = read(alloc, &mut shelf, 9, "b")?;
-    let whole = write_twice(alloc, &mut shelf, "a", b"xy")?;
+fn a_quiet_shelf_takes_all_and_keeps_what_fits(rt: HostRuntime) -> Result<(), Fail> {
+    let mut shelf = QuietShelf::over(rt.alloc(), Vec::new(rt.alloc()), 3);
+    let before = read(rt.alloc(), &mut shelf, 9, "b")?;
+    assert!(rt; before.as_str() == "Missing", "{before}");
+    let after = read_after_writes(rt.alloc(), &mut shelf, "a", b"xy", "b")?;
+    assert!(rt; after.as_str() == "true, Memory", "{after}");
     let kept = str::from_utf8(shelf.file("a").unwrap_or(&[])).unwrap_or("no text");
-    found.push_str(format!(in alloc; ", {before}, {whole} {kept}, ")?.as_str())?;
-    found.push_str(read(alloc, &mut shelf, 9, "b")?.as_str())?;
-    let wanted = "Ok(3) Ok(4) abcde, Missing, true xyx, Memory";
-    assert!(rt; found.as_str() == wanted, "{found}");
+    assert!(rt; kept == "xyx", "{kept}");
     Ok(())
 }
 
@@ -165,12 +184,11 @@ fn a_quiet_end_takes_all_and_keeps_what_fits(rt: HostRuntime) -> Result<(), Fail
 fn a_real_file_is_made_and_read_back(rt: HostRuntime) -> Result<(), Fail> {
     let path = "/tmp/test_captures_shelf";
     let mut shelf = FileShelf::new(rt.alloc(), &rt);
-    let whole = write_twice(rt.alloc(), &mut shelf, path, b"abc")?;
-    let kept = read(rt.alloc(), &mut shelf, 9, path)?;
+    let found = read_after_writes(rt.alloc(), &mut shelf, path, b"abc", path)?;
+    assert!(rt; found.as_str() == "true, abcabc End", "{found}");
     fs::remove_file(&rt, path)?;
     let gone = read(rt.alloc(), &mut shelf, 9, path)?;
-    let found = format!(in rt.alloc(); "{whole}, {kept}, {gone}")?;
-    assert!(rt; found.as_str() == "true, abcabc End, Failed", "{found}");
+    assert!(rt; gone.as_str() == "Failed", "{gone}");
     Ok(())
 }
 
@@ -190,15 +208,17 @@ fn written_to(rt: HostRuntime, path: &str, apart: &str, words: &str) -> Result<S
 fn a_file_that_is_read_is_not_written_over(rt: HostRuntime) -> Result<(), Fail> {
     let (path, other) = ("/tmp/test_captures_kept", "/tmp/./test_captures_kept");
     let mut shelf = FileShelf::new(rt.alloc(), &rt);
-    let whole = write_twice(rt.alloc(), &mut shelf, path, b"abc")?;
-    let before = read(rt.alloc(), &mut shelf, 9, path)?;
+    let before = read_after_writes(rt.alloc(), &mut shelf, path, b"abc", path)?;
+    assert!(rt; before.as_str() == "true, abcabc End", "{before}");
     let made = shelf.create_file(other).err();
     let put = written_to(rt, other, "/ /tmp/test_captures_kept", "d")?;
     let after = read(rt.alloc(), &mut shelf, 9, path)?;
     fs::remove_file(&rt, path)?;
-    let found = format!(in rt.alloc(); "{whole}, {before}, {made:?}, {put}, {after}")?;
-    let wanted = "true, abcabc End, Some(Failed), Err(Failed) , abcabc End";
-    assert!(rt; found.as_str() == wanted, "{found}");
+    let found = format!(in rt.alloc(); "{made:?}, {put}, {after}")?;
+    assert!(rt;
+        found.as_str() == "Some(Failed), Err(Failed) , abcabc End",
+        "{found}"
+    );
     Ok(())
 }
 

@@ -25,9 +25,28 @@ pub fn shelf_over(alloc: Global, bytes: &[u8], way: Way) -> Result<MemoryShelf, 
 }
 
 /// The arrival, the length on the wire and the number of captured bytes of a record.
-fn record_text(alloc: Global, record: &RecordView<'_>) -> Result<String, AllocError> {
-    let bytes = record.bytes.len();
-    format!(in alloc; "{} {} {bytes}, ", record.arrival, record.orig_len)
+#[derive(Clone, Copy)]
+struct Record {
+    arrival: i64,
+    orig_len: u32,
+    bytes: usize,
+}
+
+fn numbers_of(record: &RecordView<'_>) -> Record {
+    Record {
+        arrival: record.arrival,
+        orig_len: record.orig_len,
+        bytes: record.bytes.len(),
+    }
+}
+
+fn record_text(alloc: Global, record: Record) -> Result<String, AllocError> {
+    let Record {
+        arrival,
+        orig_len,
+        bytes,
+    } = record;
+    format!(in alloc; "{arrival} {orig_len} {bytes}, ")
 }
 
 fn end_text(alloc: Global, end: Option<End>) -> Result<String, AllocError> {
@@ -37,30 +56,37 @@ fn end_text(alloc: Global, end: Option<End>) -> Result<String, AllocError> {
     }
 }
 
-/// The records of a capture that has at most two records, and how the reading ends, as text.
+fn text_of(
+    alloc: Global,
+    records: [Option<Record>; 2],
+    end: Option<End>,
+) -> Result<String, AllocError> {
+    let mut text = String::new(alloc);
+    for record in records {
+        if let Some(record) = record {
+            text.push_str(record_text(alloc, record)?.as_str())?;
+        }
+    }
+    text.push_str(end_text(alloc, end)?.as_str())?;
+    Ok(text)
+}
+
+/// The records of a capture that has at most two records, and how the reading ends, as text. Once the reading has
+/// ended, each further call has to return the same end.
 pub fn told(alloc: Global, capture: &[u8], way: Way) -> Result<String, Fail> {
     let mut shelf = shelf_over(alloc, capture, way)?;
     let Ok(mut source) = Source::open(alloc, u64::from(way.limit), &mut shelf, "a") else {
         return Err(Fail::from("the capture cannot be opened"));
     };
-    let mut text = String::new(alloc);
-    match source.next(&mut shelf) {
-        None => text.push_str(record_text(alloc, &source.record())?.as_str())?,
-        end => {
-            source.close(&mut shelf);
-            return Ok(end_text(alloc, end)?);
-        }
-    }
-    match source.next(&mut shelf) {
-        None => text.push_str(record_text(alloc, &source.record())?.as_str())?,
-        end => {
-            source.close(&mut shelf);
-            text.push_str(end_text(alloc, end)?.as_str())?;
-            return Ok(text);
-        }
-    }
+    let first = match source.next(&mut shelf) {
+        None => Some(numbers_of(&source.record())),
+        Some(_) => None,
+    };
+    let second = match source.next(&mut shelf) {
+        None => Some(numbers_of(&source.record())),
+        Some(_) => None,
+    };
     let end = source.next(&mut shelf);
     source.close(&mut shelf);
-    text.push_str(end_text(alloc, end)?.as_str())?;
-    Ok(text)
+    Ok(text_of(alloc, [first, second], end)?)
 }

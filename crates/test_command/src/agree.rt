@@ -1,10 +1,11 @@
 //! The command `agree`.
 
-use crate::losses::places_of;
+use crate::losses::{deliver_as, talk};
 use crate::recipe::bytes_of;
-use crate::transcript::{Bench, follow, records_at, records_in};
+use crate::transcript::{Bench, columns, follow_each};
 use avtp_base::NoMemory;
 use std::alloc::Global;
+use std::process::Abort;
 use std::thread::Threads;
 
 const CAPTURES: &str = "\
@@ -50,11 +51,6 @@ talk packets 4 clock 0
 $ agree 0200000000010001 a b
 end matched 1 only 1 0 differ 0
 ";
-
-#[test]
-fn a_pair_differs_in_the_first_sample_that_does(rt: HostRuntime) -> Result<(), NoMemory> {
-    follow(&rt, rt.alloc(), CAPTURES)
-}
 
 /// Each packet is due before the next packet of its capture is read. The differences of a packet are therefore known
 /// even if its capture cannot be read further.
@@ -128,11 +124,6 @@ words: 4
 [2]
 ";
 
-#[test]
-fn a_side_that_ends_early_is_compared_up_to_there(rt: HostRuntime) -> Result<(), NoMemory> {
-    follow(&rt, rt.alloc(), ENDS)
-}
-
 /// A row has the input of `talk`, the options of `talk`, and the options of `agree`. Then the row has, for each of two
 /// captures, the records that are delivered, written as in the rows of `losses`. In the first row of H.264, each access
 /// unit has 255 NAL units. In the second row of H.264, the second access unit is a single NAL unit in 255 fragments.
@@ -203,51 +194,81 @@ fn in_both(a: &[Sample<'_>], b: &[Sample<'_>]) -> usize {
     both
 }
 
-/// The first text is what `agree` prints of two captures of one talker. The second text is what `agree` should print,
-/// according to what `listen` presents from each capture.
-fn compare<T: Threads + Sync>(
+/// What `agree` should print, according to the texts of `listen` over the two captures.
+fn end_of(alloc: Global, heard: [&str; 2]) -> Result<String, NoMemory> {
+    let [a, b] = heard;
+    let a = presented(alloc, a)?;
+    let b = presented(alloc, b)?;
+    let both = in_both(&a, &b);
+    let only_a = a.len().saturating_sub(both);
+    let only_b = b.len().saturating_sub(both);
+    Ok(format!(in alloc; "end matched {both} only {only_a} {only_b} differ 0\n")?)
+}
+
+/// Runs a command with these options over the captures that `names` has.
+fn text_of<T: Threads + Sync>(
+    rt: &T,
+    bench: &mut Bench,
+    verb: &str,
+    options: &str,
+    names: &str,
+) -> Result<String, NoMemory> {
+    let line = format!(in bench.alloc(); "{verb} {options} 0200000000010001 {names}")?;
+    bench.run(rt, line.as_str())
+}
+
+/// A shelf with two captures, `a` and `b`, of the talker of a row.
+fn captures_of<T: Threads + Sync>(rt: &T, alloc: Global, row: &str) -> Result<Bench, NoMemory> {
+    let [steps, options, _, first, second] = columns(row);
+    let mut bench = Bench::new(alloc);
+    bench.put("a.raw", bytes_of(alloc, steps)?)?;
+    talk(rt, &mut bench, options)?;
+    let _ = deliver_as(&mut bench, "a", first)?;
+    let _ = deliver_as(&mut bench, "b", second)?;
+    Ok(bench)
+}
+
+/// What `agree` should print of the captures `a` and `b`, according to what `listen` presents of each.
+fn stated_end<T: Threads + Sync>(
+    rt: &T,
+    bench: &mut Bench,
+    options: &str,
+) -> Result<String, NoMemory> {
+    let a = text_of(rt, bench, "listen", options, "a")?;
+    let b = text_of(rt, bench, "listen", options, "b")?;
+    end_of(bench.alloc(), [a.as_str(), b.as_str()])
+}
+
+fn agrees_as_heard<T: Threads + Sync + Abort>(
     rt: &T,
     alloc: Global,
     row: &str,
-) -> Result<(String, String), NoMemory> {
-    let (steps, rest) = row.split_once(" | ").unwrap_or((row, ""));
-    let (talk, rest) = rest.split_once(" | ").unwrap_or((rest, ""));
-    let (options, rest) = rest.split_once(" | ").unwrap_or((rest, ""));
-    let (first, second) = rest.split_once(" | ").unwrap_or((rest, ""));
-    let mut bench = Bench::new(alloc);
-    bench.put("a.raw", bytes_of(alloc, steps)?)?;
-    let _ = bench.run(rt, &format!(in alloc; "talk {talk} a.raw c")?)?;
-    let records = records_in(alloc, bench.file("c"))?.len();
-    let a = records_at(alloc, bench.file("c"), &places_of(alloc, first, records)?)?;
-    let b = records_at(alloc, bench.file("c"), &places_of(alloc, second, records)?)?;
-    bench.put("a", a)?;
-    bench.put("b", b)?;
-    let text = bench.run(
-        rt,
-        &format!(in alloc; "agree {options} 0200000000010001 a b")?,
-    )?;
-    let heard_a = bench.run(
-        rt,
-        &format!(in alloc; "listen {options} 0200000000010001 a")?,
-    )?;
-    let heard_b = bench.run(
-        rt,
-        &format!(in alloc; "listen {options} 0200000000010001 b")?,
-    )?;
-    let (in_a, in_b) = (presented(alloc, &heard_a)?, presented(alloc, &heard_b)?);
-    let both = in_both(&in_a, &in_b);
-    let only_a = in_a.len().saturating_sub(both);
-    let only_b = in_b.len().saturating_sub(both);
-    let end = format!(in alloc; "end matched {both} only {only_a} {only_b} differ 0\n")?;
-    Ok((text, end))
+) -> Result<(), NoMemory> {
+    let [_, _, options, _, _] = columns(row);
+    let mut bench = captures_of(rt, alloc, row)?;
+    let end = stated_end(rt, &mut bench, options)?;
+    let found = text_of(rt, &mut bench, "agree", options, "a b")?;
+    let text = found.as_str();
+    let agrees = text == end.as_str() && !text.starts_with("end matched 0 ");
+    assert!(rt; agrees, "{row}: {text}");
+    Ok(())
 }
 
 #[test]
 fn captures_of_one_talker_match_in_what_both_present(rt: HostRuntime) -> Result<(), NoMemory> {
     for row in ROWS.lines() {
-        let (text, end) = compare(&rt, rt.alloc(), row)?;
-        assert!(rt; text.as_str() == end.as_str(), "{row}: {text}");
-        assert!(rt; !text.starts_with("end matched 0 "), "{row}: {text}");
+        agrees_as_heard(&rt, rt.alloc(), row)?;
     }
     Ok(())
+}
+
+/// The transcripts of runs of `agree`, each after its title.
+const TRANSCRIPTS: [(&str, &str); 2] = [
+    ("a pair differs in the first sample that does", CAPTURES),
+    ("a side that ends early is compared up to there", ENDS),
+];
+
+#[test]
+fn agree_prints_what_its_transcripts_state(rt: HostRuntime) -> Result<(), NoMemory> {
+    follow_each(&rt, rt.alloc(), &TRANSCRIPTS)
 }

@@ -1,6 +1,6 @@
 //! The command `check`.
 
-use crate::transcript::follow;
+use crate::transcript::follow_each;
 use avtp_base::NoMemory;
 
 const CAPTURES: &str = "\
@@ -87,11 +87,6 @@ capture c.pcap
 end frames 0 streams 0 findings 0
 ";
 
-#[test]
-fn each_packet_is_checked_by_itself(rt: HostRuntime) -> Result<(), NoMemory> {
-    follow(&rt, rt.alloc(), CAPTURES)
-}
-
 /// First, all packets are captured as they were sent. Then one packet is lost and one packet is repeated. In a further
 /// capture, a media clock restart comes too early.
 const STREAMS: &str = "\
@@ -127,11 +122,6 @@ $ check c.pcap
 capture c.pcap
 end frames 4 streams 1 findings 0
 ";
-
-#[test]
-fn packets_are_checked_against_those_of_their_stream(rt: HostRuntime) -> Result<(), NoMemory> {
-    follow(&rt, rt.alloc(), STREAMS)
-}
 
 const PCAPNG: &str = "\
 < c.pcap V5
@@ -192,7 +182,14 @@ capture refused: link_type at 36
 [3]
 ";
 
+/// The transcripts of runs of `check`, each after its title.
+const TRANSCRIPTS: [(&str, &str); 3] = [
+    ("each packet is checked by itself", CAPTURES),
+    ("packets are checked against those of their stream", STREAMS),
+    ("a pcapng file is read as the same capture", PCAPNG),
+];
+
 #[test]
-fn a_pcapng_file_is_read_as_the_same_capture(rt: HostRuntime) -> Result<(), NoMemory> {
-    follow(&rt, rt.alloc(), PCAPNG)
+fn check_prints_what_its_transcripts_state(rt: HostRuntime) -> Result<(), NoMemory> {
+    follow_each(&rt, rt.alloc(), &TRANSCRIPTS)
 }

@@ -2,10 +2,8 @@
 //! with calls that move many. The status names the fault, and the text is what was certain before the fault.
 
 use crate::recipe::file_of;
-use crate::transcript::{status_of, words_of};
+use crate::runs::{Files, Outcome, Way, add_file, one_file, ran};
 use avtp_base::NoMemory;
-use avtp_memory::{MemoryShelf, MemorySink};
-use device_rack::Rack;
 use run_report::Status;
 use std::alloc::Global;
 use std::process::Abort;
@@ -129,30 +127,40 @@ V1/58 2=01 ts:1012000000 record:1010000000
     status: Status::Findings,
 };
 
-/// The files of a shelf.
-pub type Files = Vec<(String, Vec<u8>)>;
+/// A capture is turned into another one. The second packet overlaps the first packet. The third packet makes the second
+/// packet due. With 24 bits per sample, a packet has four stereo sample frames.
+const TURNED: Case = Case {
+    line: "gateway --to am824 0200000000010001 c.pcap d.pcap",
+    capture: "\
+V1 74=03 77=18
+V1/58 2=01 16=03 19=18 ts:1002062500 record:1000062500
+V1/58 2=02 16=03 19=18 ts:1012000000 record:1010000000
+",
+    second: None,
+    before: "",
+    certain: "skip frame 2 overlap\n",
+    end: "gateway batches 3 packets 2 skipped 1\n",
+    status: Status::Findings,
+};
 
-/// A shelf's only file.
-pub fn one_file(alloc: Global, name: &str, bytes: &[u8]) -> Result<Files, NoMemory> {
-    let mut files = Vec::new(alloc);
-    files.push((
-        String::from_str(alloc, name)?,
-        Vec::from_slice(alloc, bytes)?,
-    ))?;
-    Ok(files)
-}
-
-fn add_file(alloc: Global, files: &mut Files, name: &str, lines: &str) -> Result<(), NoMemory> {
-    files.push((String::from_str(alloc, name)?, file_of(alloc, lines)?))?;
-    Ok(())
+/// Whether the text consists of these parts, in order.
+fn is_made_of(text: &str, parts: [&str; 3]) -> bool {
+    let mut rest = text;
+    for part in parts {
+        match rest.strip_prefix(part) {
+            Some(after) => rest = after,
+            None => return false,
+        }
+    }
+    rest.is_empty()
 }
 
 impl Case {
     fn files(&self, alloc: Global) -> Result<Files, NoMemory> {
         let mut files = Vec::new(alloc);
-        add_file(alloc, &mut files, "c.pcap", self.capture)?;
+        add_file(alloc, &mut files, "c.pcap", &file_of(alloc, self.capture)?)?;
         if let Some(second) = self.second {
-            add_file(alloc, &mut files, "d.pcap", second)?;
+            add_file(alloc, &mut files, "d.pcap", &file_of(alloc, second)?)?;
         }
         Ok(files)
     }
@@ -167,70 +175,42 @@ impl Case {
         self.captures().saturating_mul(reads.saturating_add(2))
     }
 
-    /// The status and the text of a run in which call number `call` of the shelf fails and each capture takes `reads`
-    /// reads.
-    fn told(&self, alloc: Global, call: usize, reads: usize) -> Result<(Status, String), NoMemory> {
-        let Case {
-            before,
-            certain,
-            ..
-        } = self;
+    /// The parts of the text of a run without a fault.
+    fn whole(&self) -> [&'static str; 3] {
+        [self.before, self.certain, self.end]
+    }
+
+    /// The status and the parts of the text of a run in which call number `call` of the shelf fails and each capture
+    /// takes `reads` reads.
+    fn told(&self, call: usize, reads: usize) -> (Status, [&'static str; 3]) {
         let last = self.calls(reads);
-        if call <= self.captures() {
-            return Ok((Status::ReadFault, String::from_str(alloc, "read fault\n")?));
+        if call > last {
+            return (self.status, self.whole());
         }
-        if call < last {
-            return Ok((
-                Status::ReadFault,
-                format!(in alloc; "{before}read fault\n")?,
-            ));
-        }
-        if call == last {
-            return Ok((
-                Status::ReadFault,
-                format!(in alloc; "{before}{certain}read fault\n")?,
-            ));
-        }
-        Ok((self.status, self.whole(alloc)?))
-    }
-
-    /// The text of a run without a fault.
-    fn whole(&self, alloc: Global) -> Result<String, NoMemory> {
-        Ok(format!(in alloc; "{}{}{}", self.before, self.certain, self.end)?)
+        let before = if call <= self.captures() {
+            ""
+        } else {
+            self.before
+        };
+        let certain = if call < last { "" } else { self.certain };
+        (Status::ReadFault, [before, certain, "read fault\n"])
     }
 }
 
-/// How a run ended, what it printed, and what the file `c.pcap` then held.
-#[derive(Drop)]
-pub struct Outcome {
-    pub status: Status,
-    pub text: Vec<u8>,
-    pub made: Option<Vec<u8>>,
-}
-
-/// Runs a command over files. Call number `calls.0` of the shelf and call number `calls.1` of the sink fail. Each call
-/// moves at most `most` bytes.
-pub fn ended<T: Threads + Sync>(
+/// Asserts how a run ends if call number `call` of the shelf fails and each call moves at most `most` bytes.
+fn ends_as_told<T: Threads + Sync + Abort>(
     rt: &T,
     alloc: Global,
-    line: &str,
-    files: Files,
-    calls: (usize, usize),
-    most: usize,
-) -> Result<Outcome, NoMemory> {
-    let fails = Vec::from_slice(alloc, &[calls.0 as u64])?;
-    let mut shelf = MemoryShelf::over(alloc, files, fails).at_most(most.max(1));
-    let fails = Vec::from_slice(alloc, &[calls.1 as u64])?;
-    let mut sink = MemorySink::over(alloc, fails).at_most(most.max(1));
-    let mut rack = Rack::over(Vec::new(alloc));
-    let words = words_of(alloc, line)?;
-    let status = status_of(rt, alloc, &words, &mut shelf, &mut sink, &mut rack);
-    let text = Vec::from_slice(alloc, sink.bytes())?;
-    let made = match shelf.file("c.pcap") {
-        Some(bytes) => Some(Vec::from_slice(alloc, bytes)?),
-        None => None,
-    };
-    Ok(Outcome { status, text, made })
+    case: &Case,
+    reads: usize,
+    way: &Way<'_>,
+) -> Result<(), NoMemory> {
+    let ran = ran(rt, alloc, way, case.files(alloc)?)?;
+    let (status, parts) = case.told(way.shelf_fails as usize, reads);
+    let is_told = ran.status == status && is_made_of(ran.text.as_str(), parts);
+    let (found, text) = (ran.status, ran.text.as_str());
+    assert!(rt; is_told, "{way:?}: {found:?} {text}");
+    Ok(())
 }
 
 /// Whichever call of the shelf fails, the run ends as the case states.
@@ -239,19 +219,17 @@ fn ends_where_a_read_fails<T: Threads + Sync + Abort>(
     alloc: Global,
     case: &Case,
 ) -> Result<(), NoMemory> {
-    let capture = file_of(alloc, case.capture)?;
+    let size = file_of(alloc, case.capture)?.len();
     for most in READS {
-        let reads = capture.len().div_ceil(most.max(1));
+        let reads = size.div_ceil(most.max(1));
         for call in 1..=case.calls(reads).saturating_add(1) {
-            let files = case.files(alloc)?;
-            let ran = ended(rt, alloc, case.line, files, (call, 0), most)?;
-            let (status, text) = case.told(alloc, call, reads)?;
-            let line = case.line;
-            assert_eq!(rt; ran.status, status, "{line}: call {call} of {most} bytes");
-            assert!(rt;
-                ran.text.as_slice() == text.as_bytes(),
-                "{line}: call {call} of {most} bytes"
-            );
+            let way = Way {
+                line: case.line,
+                shelf_fails: call as u64,
+                sink_fails: 0,
+                most,
+            };
+            ends_as_told(rt, alloc, case, reads, &way)?;
         }
     }
     Ok(())
@@ -270,88 +248,201 @@ fn a_failing_read_of_either_capture_ends_their_comparison(rt: HostRuntime) -> Re
     ends_where_a_read_fails(&rt, rt.alloc(), &AGREED)
 }
 
-/// If a write fails, the written text is a prefix of the whole text. A run that fails at write n writes at most as much
-/// text as a run that fails at write n + 1.
+/// Runs a command in which a call of the sink fails, and asserts that the text and the file that is made are prefixes of
+/// those of the whole run. Returns the status and the length of the text.
+fn prefix_of<T: Threads + Sync + Abort>(
+    rt: &T,
+    alloc: Global,
+    case: &Case,
+    whole: &Outcome,
+    way: &Way<'_>,
+) -> Result<(Status, usize), NoMemory> {
+    let ran = ran(rt, alloc, way, case.files(alloc)?)?;
+    let made = ran.made.as_deref().unwrap_or(&[]);
+    let is_prefix = whole.text.starts_with(ran.text.as_str())
+        && whole.made.as_deref().unwrap_or(&[]).starts_with(made);
+    let (status, text) = (ran.status, ran.text.as_str());
+    assert!(rt; is_prefix, "{way:?}: {status:?} {text}");
+    Ok((status, text.len()))
+}
+
+/// A run that fails at write n writes at most as much text as a run that fails at write n + 1. A run whose writes all
+/// succeed writes the whole text.
+fn ends_where_a_write_fails<T: Threads + Sync + Abort>(
+    rt: &T,
+    alloc: Global,
+    case: &Case,
+    whole: &Outcome,
+    most: usize,
+) -> Result<(), NoMemory> {
+    let mut written = 0;
+    for call in 1..=whole.text.len().saturating_add(1) {
+        let way = Way {
+            line: case.line,
+            shelf_fails: 0,
+            sink_fails: call as u64,
+            most,
+        };
+        let (status, len) = prefix_of(rt, alloc, case, whole, &way)?;
+        let is_more = written <= len && (status == Status::WriteFault || status == case.status);
+        assert!(rt; is_more, "{way:?}: {status:?}, {len} bytes after {written}");
+        written = len;
+        if status == case.status {
+            break;
+        }
+    }
+    assert_eq!(rt; written, whole.text.len(), "{most} bytes");
+    Ok(())
+}
+
 #[test]
 fn a_failing_write_leaves_a_prefix_of_the_text(rt: HostRuntime) -> Result<(), NoMemory> {
-    let alloc = rt.alloc();
-    for case in [SHOWN, HEARD, CHECKED, AGREED] {
-        let whole = case.whole(alloc)?;
+    for case in [SHOWN, HEARD, CHECKED, AGREED, TURNED] {
+        let way = Way {
+            line: case.line,
+            shelf_fails: 0,
+            sink_fails: 0,
+            most: 65_536,
+        };
+        let whole = ran(&rt, rt.alloc(), &way, case.files(rt.alloc())?)?;
+        let is_whole = whole.status == case.status && is_made_of(whole.text.as_str(), case.whole());
+        let text = whole.text.as_str();
+        assert!(rt; is_whole, "{way:?}: {text}");
         for most in WRITES {
-            let mut written = 0;
-            for call in 1..=whole.len().saturating_add(1) {
-                let files = case.files(alloc)?;
-                let ran = ended(&rt, alloc, case.line, files, (0, call), most)?;
-                let line = case.line;
-                assert!(rt;
-                    whole.as_bytes().starts_with(&ran.text),
-                    "{line}: call {call} of {most} bytes"
-                );
-                assert!(rt;
-                    written <= ran.text.len(),
-                    "{line}: call {call} of {most} bytes"
-                );
-                written = ran.text.len();
-                if ran.status == case.status {
-                    break;
-                }
-                assert_eq!(rt;
-                    ran.status,
-                    Status::WriteFault,
-                    "{line}: call {call} of {most} bytes"
-                );
-            }
-            assert_eq!(rt; written, whole.len());
+            ends_where_a_write_fails(&rt, rt.alloc(), &case, &whole, most)?;
         }
     }
     Ok(())
 }
 
-/// The status of `talk` over the first vector's samples, and the size of the capture if it was created. Call number
-/// `call` of the shelf fails, and each call moves at most `most` bytes. The calls open the input, read it, find its
-/// end, create the capture and write the capture.
-fn made(call: usize, most: usize) -> (Status, Option<usize>) {
-    let create = 24usize.div_ceil(most.max(1)).saturating_add(3);
-    let writes = 106usize.div_ceil(most.max(1));
-    if call < create {
-        return (Status::ReadFault, None);
+/// A command that makes the capture `c.pcap` of the file `a`: its words, the steps of both files, how often it reads `a`,
+/// and its text.
+#[derive(Clone, Copy)]
+struct Making {
+    line: &'static str,
+    input: &'static str,
+    output: &'static str,
+    readings: usize,
+    text: &'static str,
+}
+
+const TALKED: Making = Making {
+    line: "talk a c.pcap",
+    input: "V1/82",
+    output: "V1",
+    readings: 1,
+    text: "talk packets 1 clock 0\n",
+};
+
+const GATEWAY: Making = Making {
+    line: "gateway --to am824 0200000000010001 a c.pcap",
+    input: "V1 74=03 77=18",
+    output: "V2 ..32 21=28 x400001ff40ff000240fffe004003fffd400004ff40fc000540fffb004006fffa capture:1000000000",
+    readings: 2,
+    text: "gateway batches 1 packets 1 skipped 0\n",
+};
+
+/// How a command of `Making` ends: the status, and the size of the capture if it was created.
+#[derive(Clone, Copy)]
+struct Made {
+    status: Status,
+    size: Option<usize>,
+}
+
+/// How a run ends in which call number `call` of the shelf fails. The first `reading` calls open the input, read it and
+/// find its end. The next call creates the capture. If the input is read twice, `reading` calls follow. After a failed
+/// read, the capture has only its file header. The other calls write the `size` bytes of the capture, at most `most`
+/// bytes in each call.
+fn end_at(call: usize, reading: usize, again: usize, size: usize, most: usize) -> Made {
+    let create = reading.saturating_add(1);
+    let done = call.saturating_sub(create.saturating_add(again));
+    let written = done.saturating_sub(1).saturating_mul(most);
+    if call <= reading {
+        Made {
+            status: Status::ReadFault,
+            size: None,
+        }
+    } else if call == create {
+        Made {
+            status: Status::WriteFault,
+            size: None,
+        }
+    } else if done == 0 {
+        Made {
+            status: Status::ReadFault,
+            size: Some(24),
+        }
+    } else if written < size {
+        Made {
+            status: Status::WriteFault,
+            size: Some(written),
+        }
+    } else {
+        Made {
+            status: Status::Done,
+            size: Some(size),
+        }
     }
-    let done = call.saturating_sub(create);
-    if done == 0 {
-        return (Status::WriteFault, None);
+}
+
+impl Making {
+    /// How a run ends with a capture of `size` bytes of an input of `read` bytes.
+    fn ends(&self, way: &Way<'_>, read: usize, size: usize) -> Made {
+        let reading = read.div_ceil(way.most.max(1)).saturating_add(2);
+        let again = if self.readings == 2 { reading } else { 0 };
+        end_at(way.shelf_fails as usize, reading, again, size, way.most)
     }
-    if done <= writes {
-        let written = done.saturating_sub(1).saturating_mul(most).min(106);
-        return (Status::WriteFault, Some(written));
+
+    fn text(&self, status: Status) -> &'static str {
+        match status {
+            Status::ReadFault => "read fault\n",
+            Status::WriteFault => "",
+            _ => self.text,
+        }
     }
-    (Status::Done, Some(106))
+}
+
+/// Whether a capture was made of the first `size` bytes of `whole`. If `size` is `None`, whether no capture was made.
+fn is_front(made: Option<&[u8]>, whole: &[u8], size: Option<usize>) -> bool {
+    match (made, size) {
+        (Some(made), Some(size)) => made.len() == size && whole.starts_with(made),
+        (None, None) => true,
+        _ => false,
+    }
+}
+
+/// Asserts how a run ends if a call of the shelf fails.
+fn leaves_a_prefix<T: Threads + Sync + Abort>(
+    rt: &T,
+    alloc: Global,
+    making: &Making,
+    way: &Way<'_>,
+) -> Result<(), NoMemory> {
+    let input = file_of(alloc, making.input)?;
+    let whole = file_of(alloc, making.output)?;
+    let ran = ran(rt, alloc, way, one_file(alloc, "a", &input)?)?;
+    let Made { status, size } = making.ends(way, input.len(), whole.len());
+    let is_stated = ran.status == status
+        && ran.text.as_str() == making.text(status)
+        && is_front(ran.made.as_deref(), &whole, size);
+    let (found, text) = (ran.status, ran.text.as_str());
+    assert!(rt; is_stated, "{way:?}: {found:?} {text}");
+    Ok(())
 }
 
 #[test]
-fn a_failing_call_of_talk_leaves_a_prefix_of_the_capture(rt: HostRuntime) -> Result<(), NoMemory> {
-    let alloc = rt.alloc();
-    let whole = file_of(alloc, "V1")?;
-    for most in [1, 7, 65_536] {
-        for call in 1..=140 {
-            let mut files = Vec::new(alloc);
-            add_file(alloc, &mut files, "a.raw", "V1/82")?;
-            let ran = ended(&rt, alloc, "talk a.raw c.pcap", files, (call, 0), most)?;
-            let (status, size) = made(call, most);
-            let text = match status {
-                Status::ReadFault => "read fault\n",
-                Status::WriteFault => "",
-                _ => "talk packets 1 clock 0\n",
-            };
-            assert_eq!(rt; ran.status, status, "call {call} of {most} bytes");
-            assert!(rt;
-                ran.text.as_slice() == text.as_bytes(),
-                "call {call} of {most} bytes"
-            );
-            let stated = size.map(|size| whole.get(..size).unwrap_or(&[]));
-            assert!(rt;
-                ran.made.as_deref() == stated,
-                "call {call} of {most} bytes"
-            );
+fn a_failing_call_leaves_a_prefix_of_the_capture(rt: HostRuntime) -> Result<(), NoMemory> {
+    for making in [TALKED, GATEWAY] {
+        for most in [1, 7, 65_536] {
+            for call in 1..=140 {
+                let way = Way {
+                    line: making.line,
+                    shelf_fails: call,
+                    sink_fails: 0,
+                    most,
+                };
+                leaves_a_prefix(&rt, rt.alloc(), &making, &way)?;
+            }
         }
     }
     Ok(())

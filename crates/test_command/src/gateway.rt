@@ -1,10 +1,7 @@
 //! The command `gateway`. With 24 bits per sample, the packet of the first vector has four stereo sample frames.
 
-use crate::faults::{ended, one_file};
-use crate::recipe::{bytes_of, file_of};
-use crate::transcript::follow;
+use crate::transcript::{columns, follow, follow_each};
 use avtp_base::NoMemory;
-use run_report::Status;
 
 const TURNED: &str = "\
 < a.raw noise:36
@@ -59,11 +56,6 @@ gateway batches 0 packets 0 skipped 0
 ? d.pcap V1 ..24
 ";
 
-#[test]
-fn each_sample_is_due_when_it_was_in_the_other_format(rt: HostRuntime) -> Result<(), NoMemory> {
-    follow(&rt, rt.alloc(), TURNED)
-}
-
 /// After a packet of four blocks, the DBC of the next packet is the next multiple of eight.
 const OUTPUT: &str = "\
 < in V1 74=03 77=18
@@ -103,11 +95,6 @@ gateway batches 1 packets 1 skipped 0
 ? back V1 69=09 74=03 77=18
 ";
 
-#[test]
-fn the_capture_has_the_packets_of_what_was_due(rt: HostRuntime) -> Result<(), NoMemory> {
-    follow(&rt, rt.alloc(), OUTPUT)
-}
-
 /// The last sample of the first packet is due at 1002062500. The largest possible arrival is one nanosecond below 2^32
 /// seconds.
 const SKIPPED: &str = "\
@@ -134,11 +121,6 @@ $ gateway --to am824 0200000000010001 in out
 gateway batches 1 packets 1 skipped 0
 ? out V2 ..32 21=28 ts:1999999 x400001ff40ff000240fffe004003fffd400004ff40fc000540fffb004006fffa capture:4294967295999999999
 ";
-
-#[test]
-fn a_batch_that_overlaps_or_comes_too_late_is_skipped(rt: HostRuntime) -> Result<(), NoMemory> {
-    follow(&rt, rt.alloc(), SKIPPED)
-}
 
 const UNMADE: &str = "\
 < out x00
@@ -189,11 +171,6 @@ $ gateway --to aaf 0200000000010001 in out
 gateway batches 1 packets 1 skipped 0
 ";
 
-#[test]
-fn a_run_that_ends_before_the_scan_does_makes_nothing(rt: HostRuntime) -> Result<(), NoMemory> {
-    follow(&rt, rt.alloc(), UNMADE)
-}
-
 /// The format that is asked for, two packets, and the fault that the scan finds.
 const FAULTS: &str = "\
 am824 | V2 | V1/58 16=03 19=18 | kind at frame 1
@@ -217,17 +194,10 @@ aaf | V2 32=41 | V1/58 | label at frame 1
 aaf | V2 | V2 76=42 | label at frame 2
 ";
 
-fn columns(row: &str) -> [&str; 4] {
-    let (first, rest) = row.split_once(" | ").unwrap_or((row, ""));
-    let (second, rest) = rest.split_once(" | ").unwrap_or((rest, ""));
-    let (third, fourth) = rest.split_once(" | ").unwrap_or((rest, ""));
-    [first, second, third, fourth]
-}
-
 #[test]
 fn the_first_fault_of_the_scan_ends_the_run(rt: HostRuntime) -> Result<(), NoMemory> {
     for row in FAULTS.lines() {
-        let [to, first, second, fault] = columns(row);
+        let [to, first, second, fault, _] = columns(row);
         let lines = format!(in rt.alloc();
             "\
 < in {first} capture:1000000000
@@ -239,7 +209,7 @@ gateway input: {fault}
 ? out x00
 "
         )?;
-        follow(&rt, rt.alloc(), &lines)?;
+        follow(&rt, rt.alloc(), row, &lines)?;
     }
     Ok(())
 }
@@ -262,7 +232,7 @@ aaf | V1/58 ..24 20=0000 | V2
 #[test]
 fn a_packet_without_samples_of_the_stream_has_no_fault(rt: HostRuntime) -> Result<(), NoMemory> {
     for row in PASSED.lines() {
-        let [to, first, second, _] = columns(row);
+        let [to, first, second, _, _] = columns(row);
         let lines = format!(in rt.alloc();
             "\
 < in {first} capture:1000000000
@@ -271,7 +241,7 @@ $ gateway --to {to} 0200000000010001 in out
 gateway batches 1 packets 1 skipped 0
 "
         )?;
-        follow(&rt, rt.alloc(), &lines)?;
+        follow(&rt, rt.alloc(), row, &lines)?;
     }
     Ok(())
 }
@@ -319,126 +289,19 @@ gateway batches *
 ~ g e
 ";
 
-#[test]
-fn a_second_turned_there_and_back_is_the_same_bytes(rt: HostRuntime) -> Result<(), NoMemory> {
-    follow(&rt, rt.alloc(), SECONDS)
-}
-
-const TURN: &str = "gateway --to am824 0200000000010001 a.pcap c.pcap";
-
-/// The status for a capture of 106 bytes, and the size of the capture that is made. Call number `call` of the shelf
-/// fails, and each call moves at most `most` bytes. The calls open the input, read it and find its end. Then the calls
-/// create the capture, and open and read the input again. Finally the calls write the 122 bytes of the capture or,
-/// after a failed read, only the file header.
-fn made(call: usize, most: usize) -> (Status, Option<usize>) {
-    let reading = 106usize.div_ceil(most.max(1)).saturating_add(2);
-    let create = reading.saturating_add(1);
-    let heard = create.saturating_add(reading);
-    let done = call.saturating_sub(heard);
-    if call <= reading {
-        return (Status::ReadFault, None);
-    }
-    if call == create {
-        return (Status::WriteFault, None);
-    }
-    if done == 0 {
-        return (Status::ReadFault, Some(24));
-    }
-    if done <= 122usize.div_ceil(most.max(1)) {
-        let written = done.saturating_sub(1).saturating_mul(most).min(122);
-        return (Status::WriteFault, Some(written));
-    }
-    (Status::Done, Some(122))
-}
+/// The transcripts of runs of `gateway`, each after its title.
+const TRANSCRIPTS: [(&str, &str); 5] = [
+    ("each sample is due when it was in the other format", TURNED),
+    ("the capture has the packets of what was due", OUTPUT),
+    (
+        "a batch that overlaps or comes too late is skipped",
+        SKIPPED,
+    ),
+    ("a run that ends before the scan does makes nothing", UNMADE),
+    ("a second turned there and back is the same bytes", SECONDS),
+];
 
 #[test]
-fn a_failing_call_of_either_reading_leaves_a_prefix(rt: HostRuntime) -> Result<(), NoMemory> {
-    let alloc = rt.alloc();
-    let input = bytes_of(alloc, "V1 74=03 77=18")?;
-    let whole = bytes_of(
-        alloc,
-        "V2 ..32 21=28 x400001ff40ff000240fffe004003fffd400004ff40fc000540fffb004006fffa capture:1000000000",
-    )?;
-    for most in [7, 65_536] {
-        for call in 1..=60 {
-            let ran = ended(
-                &rt,
-                alloc,
-                TURN,
-                one_file(alloc, "a.pcap", input.as_slice())?,
-                (call, 0),
-                most,
-            )?;
-            let (status, size) = made(call, most);
-            let text = match status {
-                Status::ReadFault => "read fault\n",
-                Status::WriteFault => "",
-                _ => "gateway batches 1 packets 1 skipped 0\n",
-            };
-            assert_eq!(rt; ran.status, status, "call {call} of {most} bytes");
-            assert!(rt;
-                ran.text.as_slice() == text.as_bytes(),
-                "call {call} of {most} bytes"
-            );
-            let stated = size.map(|size| whole.get(..size).unwrap_or(&[]));
-            assert!(rt;
-                ran.made.as_deref() == stated,
-                "call {call} of {most} bytes"
-            );
-        }
-    }
-    Ok(())
-}
-
-/// The second packet overlaps the first packet. The third packet makes the second packet due.
-const OVERLAPPED: &str = "\
-V1 74=03 77=18
-V1/58 2=01 16=03 19=18 ts:1002062500 record:1000062500
-V1/58 2=02 16=03 19=18 ts:1012000000 record:1010000000
-";
-
-#[test]
-fn a_failing_write_of_the_text_leaves_a_prefix_of_both(rt: HostRuntime) -> Result<(), NoMemory> {
-    let alloc = rt.alloc();
-    let input = file_of(alloc, OVERLAPPED)?;
-    let whole = ended(
-        &rt,
-        alloc,
-        TURN,
-        one_file(alloc, "a.pcap", input.as_slice())?,
-        (0, 0),
-        65_536,
-    )?;
-    assert_eq!(rt; whole.status, Status::Findings);
-    let text = "skip frame 2 overlap\ngateway batches 3 packets 2 skipped 1\n";
-    assert!(rt; whole.text.as_slice() == text.as_bytes());
-    let capture = whole.made.as_deref().unwrap_or(&[]);
-    for most in [7, 65_536] {
-        let mut status = Status::WriteFault;
-        for call in 1..=20 {
-            let ran = ended(
-                &rt,
-                alloc,
-                TURN,
-                one_file(alloc, "a.pcap", input.as_slice())?,
-                (0, call),
-                most,
-            )?;
-            assert!(rt;
-                text.as_bytes().starts_with(&ran.text),
-                "call {call} of {most} bytes"
-            );
-            assert!(rt;
-                capture.starts_with(ran.made.as_deref().unwrap_or(&[])),
-                "call {call} of {most} bytes"
-            );
-            assert!(rt;
-                ran.status == Status::WriteFault || ran.status == Status::Findings,
-                "call {call} of {most} bytes"
-            );
-            status = ran.status;
-        }
-        assert_eq!(rt; status, Status::Findings);
-    }
-    Ok(())
+fn gateway_prints_what_its_transcripts_state(rt: HostRuntime) -> Result<(), NoMemory> {
+    follow_each(&rt, rt.alloc(), &TRANSCRIPTS)
 }

@@ -22,6 +22,8 @@ mod recipe;
 #[cfg(test)]
 mod rings;
 #[cfg(test)]
+mod runs;
+#[cfg(test)]
 mod show;
 #[cfg(test)]
 mod talk;

@@ -1,6 +1,7 @@
 //! The command `listen`.
 
-use crate::transcript::{follow, words_of};
+use crate::runs::words_of;
+use crate::transcript::follow_each;
 use avtp_base::NoMemory;
 use avtp_tool::{DeviceWord, device_word};
 use device_rack::Silence;
@@ -97,13 +98,6 @@ capture c.pcap
 end frames 1 packets 0 presented 0 flagged 0
 ";
 
-#[test]
-fn a_capture_is_heard_up_to_its_end_its_limit_or_its_first_refusal(
-    rt: HostRuntime,
-) -> Result<(), NoMemory> {
-    follow(&rt, rt.alloc(), CAPTURES)
-}
-
 const FILES: &str = "\
 < c.pcap V1
 < b.pcap V1 0=00
@@ -138,13 +132,6 @@ capture refused: magic at 0
 [3]
 ";
 
-#[test]
-fn captures_are_heard_one_after_the_other_up_to_the_first_fault(
-    rt: HostRuntime,
-) -> Result<(), NoMemory> {
-    follow(&rt, rt.alloc(), FILES)
-}
-
 const TIMESTAMPS: &str = "\
 < c.pcap V1/58 ts:3557549055 capture:10000000000
 $ listen 0200000000010001 c.pcap
@@ -166,13 +153,6 @@ at 12884902000 frame 1 seq 0 sample 0 0001ffff
 at 12885006166 frame 1 seq 0 sample 5 0006fffa
 end frames 1 packets 1 presented 1 flagged 0
 ";
-
-#[test]
-fn a_timestamp_is_unfolded_to_the_half_circle_around_the_arrival(
-    rt: HostRuntime,
-) -> Result<(), NoMemory> {
-    follow(&rt, rt.alloc(), TIMESTAMPS)
-}
 
 const SEVERAL: &str = "\
 < c.pcap V1
@@ -226,13 +206,6 @@ at 1002104166 frame 1 seq 0 sample 5 0006fffa
 end frames 3 packets 3 presented 1 flagged 2
 ";
 
-#[test]
-fn packets_are_presented_in_order_once_and_as_far_as_there_is_room(
-    rt: HostRuntime,
-) -> Result<(), NoMemory> {
-    follow(&rt, rt.alloc(), SEVERAL)
-}
-
 /// The timestamp of the first packet, 5 s, belongs to the fifth of its six blocks. No block of the second packet has a
 /// timestamp.
 const BLOCKS: &str = "\
@@ -264,11 +237,6 @@ capture c.pcap
 flag frame 1 seq 0 empty
 end frames 1 packets 1 presented 0 flagged 1
 ";
-
-#[test]
-fn blocks_are_counted_from_the_stamped_one(rt: HostRuntime) -> Result<(), NoMemory> {
-    follow(&rt, rt.alloc(), BLOCKS)
-}
 
 /// Packets 0 to 3 are the first fragment of a NAL unit, a middle fragment, the same middle fragment again, and the last
 /// fragment.
@@ -326,11 +294,6 @@ flag frame 2 seq 1 untimed
 end frames 2 packets 2 presented 0 flagged 2
 ";
 
-#[test]
-fn a_nal_unit_is_heard_only_of_all_its_fragments(rt: HostRuntime) -> Result<(), NoMemory> {
-    follow(&rt, rt.alloc(), FRAGMENTS)
-}
-
 /// A timestamp of the clock arrives after the packets that it covers. In the last run, the clock states a rate of 44.1
 /// kHz, but its events are 20,833.3 ns apart. Samples of the 48 kHz stream are therefore 19,140.625 ns apart.
 const CLOCKS: &str = "\
@@ -387,11 +350,6 @@ at 1004201562 frame 3 seq 1 sample 4 0005fffb
 at 1004220703 frame 3 seq 1 sample 5 0006fffa
 end frames 4 packets 2 presented 2 flagged 0
 ";
-
-#[test]
-fn samples_follow_the_points_that_the_look_ahead_reaches(rt: HostRuntime) -> Result<(), NoMemory> {
-    follow(&rt, rt.alloc(), CLOCKS)
-}
 
 /// `=` is followed by one number for each of the three devices. The digits of a device's number are the frame numbers
 /// of the items that the device took, in order. If the device took no item, its number is 0. In the last run, each
@@ -500,11 +458,6 @@ limit 269
 ";
 
 #[test]
-fn each_device_takes_what_is_presented_until_it_fails(rt: HostRuntime) -> Result<(), NoMemory> {
-    follow(&rt, rt.alloc(), RACKS)
-}
-
-#[test]
 fn the_words_name_the_device_of_raw_audio_before_that_of_h264(
     rt: HostRuntime,
 ) -> Result<(), NoMemory> {
@@ -521,4 +474,36 @@ fn the_words_name_the_device_of_raw_audio_before_that_of_h264(
     );
     assert_eq!(rt; device_word(&words, 2), None);
     Ok(())
+}
+
+/// The transcripts of runs of `listen`, each after its title.
+const TRANSCRIPTS: [(&str, &str); 8] = [
+    (
+        "a capture is heard up to its end, its limit or its first refusal",
+        CAPTURES,
+    ),
+    (
+        "captures are heard one after the other up to the first fault",
+        FILES,
+    ),
+    (
+        "a timestamp is unfolded to the half circle around the arrival",
+        TIMESTAMPS,
+    ),
+    (
+        "packets are presented in order once and as far as there is room",
+        SEVERAL,
+    ),
+    ("blocks are counted from the stamped one", BLOCKS),
+    ("a NAL unit is heard only of all its fragments", FRAGMENTS),
+    (
+        "samples follow the points that the look-ahead reaches",
+        CLOCKS,
+    ),
+    ("each device takes what is presented until it fails", RACKS),
+];
+
+#[test]
+fn listen_prints_what_its_transcripts_state(rt: HostRuntime) -> Result<(), NoMemory> {
+    follow_each(&rt, rt.alloc(), &TRANSCRIPTS)
 }

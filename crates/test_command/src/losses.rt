@@ -2,9 +2,10 @@
 //! the talker's instants.
 
 use crate::recipe::{bytes_of, number};
-use crate::transcript::{Bench, numbers_in, records_at, records_in};
+use crate::transcript::{Bench, columns, numbers_in, records_at, records_in};
 use avtp_base::NoMemory;
 use std::alloc::Global;
+use std::process::Abort;
 use std::thread::Threads;
 use vectors_avtp::Draws;
 
@@ -184,26 +185,45 @@ struct Heard {
     places: Vec<usize>,
 }
 
-/// Runs `listen` with these options over the complete capture and over the delivered records. The look-ahead is 64 for
-/// the complete capture and `look` for the delivered records.
-fn hear<T: Threads + Sync>(
+/// Runs `talk` with these options over the file `a.raw`, which makes the capture `c.pcap`.
+pub fn talk<T: Threads + Sync>(rt: &T, bench: &mut Bench, options: &str) -> Result<(), NoMemory> {
+    let line = format!(in bench.alloc(); "talk {options} a.raw c.pcap")?;
+    let _ = bench.run(rt, line.as_str())?;
+    Ok(())
+}
+
+/// Puts the delivered records of `c.pcap` on the shelf under this name, and returns their numbers.
+pub fn deliver_as(bench: &mut Bench, name: &str, comes: &str) -> Result<Vec<usize>, NoMemory> {
+    let alloc = bench.alloc();
+    let records = records_in(alloc, bench.file("c.pcap"))?.len();
+    let places = places_of(alloc, comes, records)?;
+    let picked = records_at(alloc, bench.file("c.pcap"), &places)?;
+    bench.put(name, picked)?;
+    Ok(places)
+}
+
+/// Runs `listen` with these options over `c.pcap`.
+fn listen<T: Threads + Sync>(
     rt: &T,
-    alloc: Global,
-    talk: &str,
-    listen: &str,
+    bench: &mut Bench,
+    options: &str,
     look: &str,
-    comes: &str,
-) -> Result<Heard, NoMemory> {
+) -> Result<String, NoMemory> {
+    let alloc = bench.alloc();
+    let line = format!(in alloc; "listen {options} --look {look} 0200000000010001 c.pcap")?;
+    bench.run(rt, line.as_str())
+}
+
+/// Runs the `listen` of a row over the complete capture and over the delivered records. The look-ahead is 64 for the
+/// complete capture.
+fn hear<T: Threads + Sync>(rt: &T, alloc: Global, row: &str) -> Result<Heard, NoMemory> {
+    let [options, listening, look, comes, _] = columns(row);
     let mut bench = Bench::new(alloc);
     bench.put("a.raw", bytes_of(alloc, "noise:9600")?)?;
-    let _ = bench.run(rt, &format!(in alloc; "talk {talk} a.raw c.pcap")?)?;
-    let line = format!(in alloc; "listen {listen} --look 64 0200000000010001 c.pcap")?;
-    let whole = bench.run(rt, &line)?;
-    let places = places_of(alloc, comes, records_in(alloc, bench.file("c.pcap"))?.len())?;
-    let picked = records_at(alloc, bench.file("c.pcap"), &places)?;
-    bench.put("c.pcap", picked)?;
-    let line = format!(in alloc; "listen {listen} --look {look} 0200000000010001 c.pcap")?;
-    let text = bench.run(rt, &line)?;
+    talk(rt, &mut bench, options)?;
+    let whole = listen(rt, &mut bench, listening, "64")?;
+    let places = deliver_as(&mut bench, "c.pcap", comes)?;
+    let text = listen(rt, &mut bench, listening, look)?;
     Ok(Heard {
         whole,
         text,
@@ -211,19 +231,27 @@ fn hear<T: Threads + Sync>(
     })
 }
 
+fn is_heard_as_sent<T: Threads + Sync + Abort>(
+    rt: &T,
+    alloc: Global,
+    row: &str,
+) -> Result<(), NoMemory> {
+    let heard = hear(rt, alloc, row)?;
+    let [_, _, _, _, end] = columns(row);
+    let is_among = is_among(alloc, &heard.whole, &heard.text, &heard.places)?;
+    let text = heard.text.as_str();
+    let ends = ends_as_stated(text, end);
+    assert!(rt;
+        ends && is_among,
+        "{row}: ends {ends}, is among {is_among}: {text}"
+    );
+    Ok(())
+}
+
 #[test]
 fn what_is_presented_of_a_lossy_capture_is_what_was_sent(rt: HostRuntime) -> Result<(), NoMemory> {
     for row in ROWS.lines() {
-        let (talk, rest) = row.split_once(" | ").unwrap_or((row, ""));
-        let (listen, rest) = rest.split_once(" | ").unwrap_or((rest, ""));
-        let (look, rest) = rest.split_once(" | ").unwrap_or((rest, ""));
-        let (comes, end) = rest.split_once(" | ").unwrap_or((rest, ""));
-        let heard = hear(&rt, rt.alloc(), talk, listen, look, comes)?;
-        assert!(rt; ends_as_stated(&heard.text, end), "{row}");
-        assert!(rt;
-            is_among(rt.alloc(), &heard.whole, &heard.text, &heard.places)?,
-            "{row}"
-        );
+        is_heard_as_sent(&rt, rt.alloc(), row)?;
     }
     Ok(())
 }

@@ -1,6 +1,6 @@
 //! The program over a system in memory.
 
-use crate::transcript::words_of;
+use crate::runs::{one_file, words_of};
 use avtp_base::{Failed, NoMemory};
 use avtp_files::Sink;
 use avtp_memory::{MemoryShelf, MemorySink};
@@ -9,13 +9,21 @@ use run_report::Status;
 use std::alloc::Global;
 use std::sync::Arc;
 use std::sync::atomic::{AtomicU64, Ordering};
-use std::test::Fail;
+use std::thread::Threads;
 use vectors_avtp::vector;
+
+/// The bytes that were written to the file `x`, and to all other files together.
+#[derive(Drop)]
+struct Counts {
+    x: AtomicU64,
+    others: AtomicU64,
+}
 
 /// A file that counts its bytes, in memory that it shares with the test.
 #[derive(Drop)]
 struct Counting {
-    bytes: Arc<AtomicU64, Global>,
+    counts: Arc<Counts, Global>,
+    is_x: bool,
 }
 
 impl Sink for Counting {
@@ -24,19 +32,22 @@ impl Sink for Counting {
     ghost state = { λ sink. record { held = None; faults = 0 } };
 
     fn write(&mut self, piece: &[u8]) -> Result<usize, Failed> {
-        self.bytes.fetch_add(piece.len() as u64, Ordering::SeqCst);
+        let bytes = if self.is_x {
+            &self.counts.x
+        } else {
+            &self.counts.others
+        };
+        bytes.fetch_add(piece.len() as u64, Ordering::SeqCst);
         Ok(piece.len())
     }
 }
 
-/// A system with the arguments `line`. If `line` is `None`, the system has no memory for arguments. `x` counts the
-/// bytes of the file `x`, and `others` counts the bytes of all other files together.
+/// A system with the arguments `line`. If `line` is `None`, the system has no memory for arguments.
 #[derive(Drop)]
 struct Arguments {
     alloc: Global,
     line: Option<&'static str>,
-    x: Arc<AtomicU64, Global>,
-    others: Arc<AtomicU64, Global>,
+    counts: Arc<Counts, Global>,
 }
 
 impl System<Counting> for Arguments {
@@ -54,10 +65,33 @@ impl System<Counting> for Arguments {
     }
 
     fn file(&self, name: &str, _apart: Vec<String>) -> Result<Counting, NoMemory> {
-        let bytes = if name == "x" { &self.x } else { &self.others };
         Ok(Counting {
-            bytes: bytes.clone()?,
+            counts: self.counts.clone()?,
+            is_x: name == "x",
         })
+    }
+}
+
+impl Arguments {
+    fn of(alloc: Global, line: Option<&'static str>) -> Result<Self, NoMemory> {
+        let counts = Arc::new(
+            alloc,
+            Counts {
+                x: AtomicU64::new(0),
+                others: AtomicU64::new(0),
+            },
+        )?;
+        Ok(Arguments {
+            alloc,
+            line,
+            counts,
+        })
+    }
+
+    /// The sizes of the file `x` and of all other files.
+    fn counted(&self) -> [u64; 2] {
+        let Counts { x, others } = &*self.counts;
+        [x.load(Ordering::SeqCst), others.load(Ordering::SeqCst)]
     }
 }
 
@@ -89,30 +123,29 @@ const RUNS: [(Option<&str>, Status, bool, u64, u64); 5] = [
     (None, Status::Memory, false, 0, 0),
 ];
 
+/// How a program ends over the first vector, and its text.
+fn ended<T: Threads + Sync>(
+    rt: &T,
+    alloc: Global,
+    system: &Arguments,
+) -> Result<(Status, String), NoMemory> {
+    let files = one_file(alloc, "c.pcap", &vector(alloc, 1)?)?;
+    let mut shelf = MemoryShelf::over(alloc, files, Vec::new(alloc));
+    let mut sink = MemorySink::over(alloc, Vec::new(alloc));
+    let ended = run_over(rt, alloc, system, &mut shelf, &mut sink);
+    let text = str::from_utf8(sink.bytes()).unwrap_or("no text");
+    Ok((ended, String::from_str(alloc, text)?))
+}
+
 #[test]
-fn a_program_does_what_its_arguments_ask_for(rt: HostRuntime) -> Result<(), Fail> {
-    let alloc = rt.alloc();
+fn a_program_does_what_its_arguments_ask_for(rt: HostRuntime) -> Result<(), NoMemory> {
     for (line, status, whole, x, others) in RUNS {
-        let system = Arguments {
-            alloc,
-            line,
-            x: Arc::new(alloc, AtomicU64::new(0))?,
-            others: Arc::new(alloc, AtomicU64::new(0))?,
-        };
-        let mut files = Vec::new(alloc);
-        files.push((String::from_str(alloc, "c.pcap")?, vector(alloc, 1)?))?;
-        let mut shelf = MemoryShelf::over(alloc, files, Vec::new(alloc));
-        let mut sink = MemorySink::over(alloc, Vec::new(alloc));
-        let ended = run_over(&rt, alloc, &system, &mut shelf, &mut sink);
-        assert!(rt; ended == status, "{line:?}");
-        let text = str::from_utf8(sink.bytes()).unwrap_or("no text");
-        let end = "end frames 1 packets 1 presented 1 flagged 0\n";
-        assert!(rt; text.ends_with(end) == whole, "{line:?}: {text}");
-        let counted = (
-            system.x.load(Ordering::SeqCst),
-            system.others.load(Ordering::SeqCst),
-        );
-        assert!(rt; counted == (x, others), "{line:?}: {counted:?}");
+        let system = Arguments::of(rt.alloc(), line)?;
+        let (ended, text) = ended(&rt, rt.alloc(), &system)?;
+        let counted = system.counted();
+        let is_whole = text.ends_with("end frames 1 packets 1 presented 1 flagged 0\n");
+        let is_stated = ended == status && is_whole == whole && counted == [x, others];
+        assert!(rt; is_stated, "{line:?}: {ended:?} {counted:?} {text}");
     }
     Ok(())
 }

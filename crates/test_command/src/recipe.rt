@@ -27,7 +27,7 @@ pub fn file_of(alloc: Global, lines: &str) -> Result<Vec<u8>, NoMemory> {
 pub fn bytes_of(alloc: Global, steps: &str) -> Result<Vec<u8>, NoMemory> {
     let mut bytes = Vec::new(alloc);
     for step in steps.split_ascii_whitespace() {
-        bytes = after_step(alloc, bytes, step)?;
+        do_step(alloc, &mut bytes, step)?;
     }
     Ok(bytes)
 }
@@ -36,39 +36,32 @@ pub fn number(text: &str) -> usize {
     text.parse::<usize>().unwrap_or(0)
 }
 
-fn after_step(alloc: Global, bytes: Vec<u8>, step: &str) -> Result<Vec<u8>, NoMemory> {
-    let mut bytes = bytes;
+fn do_step(alloc: Global, bytes: &mut Vec<u8>, step: &str) -> Result<(), NoMemory> {
     if let Some(name) = step.strip_prefix('V') {
-        add_vector(alloc, &mut bytes, name)?;
+        add_vector(alloc, bytes, name)?;
     } else if let Some(digits) = step.strip_prefix('x') {
-        add_digits(alloc, &mut bytes, digits)?;
+        add_digits(alloc, bytes, digits)?;
     } else if let Some(len) = step.strip_prefix("..") {
         bytes.truncate(number(len));
     } else if let Some((at, digits)) = step.split_once('=') {
-        put(&mut bytes, number(at), &decoded(alloc, digits));
+        put(bytes, number(at), &decoded(alloc, digits));
     } else if let Some((name, value)) = step.split_once(':') {
-        return after_named(alloc, bytes, name, number(value));
+        do_named(alloc, bytes, name, number(value))?;
     }
-    Ok(bytes)
+    Ok(())
 }
 
-fn after_named(
-    alloc: Global,
-    bytes: Vec<u8>,
-    name: &str,
-    value: usize,
-) -> Result<Vec<u8>, NoMemory> {
-    let mut bytes = bytes;
+fn do_named(alloc: Global, bytes: &mut Vec<u8>, name: &str, value: usize) -> Result<(), NoMemory> {
     match name {
-        "zeros" => add_zeros(&mut bytes, value)?,
-        "noise" => add_noise(&mut bytes, value)?,
-        "ts" => put(&mut bytes, 12, &small(value).to_be_bytes()),
-        "point" => put(&mut bytes, 24, &small(value).to_be_bytes()),
-        "record" => return framed(Vec::new(alloc), &bytes, value),
-        "capture" => return framed(Vec::from_slice(alloc, &V1_HEADER)?, &bytes, value),
+        "zeros" => add_zeros(bytes, value)?,
+        "noise" => add_noise(bytes, value)?,
+        "ts" => put(bytes, 12, &small(value).to_be_bytes()),
+        "point" => put(bytes, 24, &small(value).to_be_bytes()),
+        "record" => *bytes = framed(alloc, &[], bytes, value)?,
+        "capture" => *bytes = framed(alloc, &V1_HEADER, bytes, value)?,
         _ => {}
     }
-    Ok(bytes)
+    Ok(())
 }
 
 /// The file header of the first vector.
@@ -132,8 +125,13 @@ fn put(bytes: &mut Vec<u8>, at: usize, piece: &[u8]) {
 }
 
 /// The bytes `before`, followed by the record of a packet that arrived at `arrival` ns.
-fn framed(before: Vec<u8>, packet: &[u8], arrival: usize) -> Result<Vec<u8>, NoMemory> {
-    let mut bytes = before;
+fn framed(
+    alloc: Global,
+    before: &[u8],
+    packet: &[u8],
+    arrival: usize,
+) -> Result<Vec<u8>, NoMemory> {
+    let mut bytes = Vec::from_slice(alloc, before)?;
     let size = small(packet.len()).saturating_add(18);
     for field in [
         small(arrival / 1_000_000_000),

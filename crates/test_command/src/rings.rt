@@ -1,17 +1,17 @@
 //! The two threads of `listen`, and the ring between them.
 
 use crate::recipe::bytes_of;
-use crate::transcript::{Bench, words_of};
+use crate::runs::{one_file, status_without_devices};
+use crate::transcript::Bench;
 use avtp_base::{Failed, NoMemory, OpenFault};
 use avtp_files::{Shelf, Sink, Slot};
 use avtp_memory::{MemoryShelf, MemorySink};
-use avtp_tool::run;
-use device_rack::Rack;
 use presenter_ring::{Gate, NoGate, Side};
 use run_report::Status;
 use std::alloc::Global;
 use std::sync::Arc;
 use std::sync::atomic::{AtomicBool, AtomicU64, Ordering};
+use std::thread::Threads;
 
 /// Counts the steps of each side, and the steps that are out of order.
 #[derive(Drop)]
@@ -33,40 +33,64 @@ impl Gate for Counting {
     }
 }
 
-/// A shelf of one file.
-fn shelf_of(alloc: Global, bytes: Vec<u8>) -> Result<MemoryShelf, NoMemory> {
-    let mut files = Vec::new(alloc);
-    files.push((String::from_str(alloc, "c.pcap")?, bytes))?;
+impl Counting {
+    fn new() -> Self {
+        Counting {
+            pushes: AtomicU64::new(0),
+            pops: AtomicU64::new(0),
+            gaps: AtomicU64::new(0),
+        }
+    }
+
+    /// The steps of each side, and the steps that are out of order.
+    fn counts(&self) -> [u64; 3] {
+        [
+            self.pushes.load(Ordering::SeqCst),
+            self.pops.load(Ordering::SeqCst),
+            self.gaps.load(Ordering::SeqCst),
+        ]
+    }
+}
+
+/// A shelf whose file `c.pcap` has these bytes.
+fn shelf_of(alloc: Global, bytes: &[u8]) -> Result<MemoryShelf, NoMemory> {
+    let files = one_file(alloc, "c.pcap", bytes)?;
     Ok(MemoryShelf::over(alloc, files, Vec::new(alloc)))
+}
+
+/// Whether `listen` ends well over a capture and prints this text, with a ring that has room for `ring` items, and what
+/// the gate counted.
+fn heard_in<T: Threads + Sync>(
+    rt: &T,
+    alloc: Global,
+    ring: &str,
+    capture: &[u8],
+    text: &str,
+) -> Result<(bool, [u64; 3]), NoMemory> {
+    let line = format!(in alloc; "listen --ring {ring} 0200000000010001 c.pcap")?;
+    let mut shelf = shelf_of(alloc, capture)?;
+    let mut sink = MemorySink::over(alloc, Vec::new(alloc));
+    let gate = Counting::new();
+    let status = status_without_devices(rt, alloc, line.as_str(), &mut shelf, &mut sink, &gate)?;
+    let is_whole = status == Status::Done && sink.bytes() == text.as_bytes();
+    Ok((is_whole, gate.counts()))
 }
 
 #[test]
 fn each_item_is_pushed_and_popped_once_whatever_room_the_ring_has(
     rt: HostRuntime,
 ) -> Result<(), NoMemory> {
-    let alloc = rt.alloc();
-    let mut bench = Bench::new(alloc);
-    bench.put("a.raw", bytes_of(alloc, "noise:24000")?)?;
+    let mut bench = Bench::new(rt.alloc());
+    bench.put("a.raw", bytes_of(rt.alloc(), "noise:24000")?)?;
     let _ = bench.run(&rt, "talk a.raw c.pcap")?;
-    let whole = bench.run(&rt, "listen 0200000000010001 c.pcap")?;
-    let capture = Vec::from_slice(alloc, bench.file("c.pcap"))?;
-    let mut shelf = shelf_of(alloc, capture)?;
+    let text = bench.run(&rt, "listen 0200000000010001 c.pcap")?;
+    let capture = bench.file("c.pcap");
     for ring in ["1", "2", "64", "256"] {
-        let gate = Counting {
-            pushes: AtomicU64::new(0),
-            pops: AtomicU64::new(0),
-            gaps: AtomicU64::new(0),
-        };
-        let line = format!(in alloc; "listen --ring {ring} 0200000000010001 c.pcap")?;
-        let words = words_of(alloc, &line)?;
-        let mut sink = MemorySink::over(alloc, Vec::new(alloc));
-        let mut rack = Rack::over(Vec::new(alloc));
-        let status = run(&rt, alloc, &words, &mut shelf, &mut sink, &gate, &mut rack);
-        assert_eq!(rt; status, Status::Done, "{line}");
-        assert!(rt; sink.bytes() == whole.as_bytes(), "{line}");
-        assert_eq!(rt; gate.pushes.load(Ordering::SeqCst), 1_000, "{line}");
-        assert_eq!(rt; gate.pops.load(Ordering::SeqCst), 1_000, "{line}");
-        assert_eq!(rt; gate.gaps.load(Ordering::SeqCst), 0, "{line}");
+        let (is_whole, counts) = heard_in(&rt, rt.alloc(), ring, capture, text.as_str())?;
+        assert!(rt;
+            is_whole && counts == [1_000, 1_000, 0],
+            "{ring}: {is_whole} {counts:?}"
+        );
     }
     Ok(())
 }
@@ -175,37 +199,59 @@ fn seconds_apart(alloc: Global, count: u8) -> Result<Vec<u8>, NoMemory> {
     Ok(capture)
 }
 
+impl Meeting {
+    fn new(alloc: Global) -> Result<Arc<Meeting, Global>, NoMemory> {
+        Ok(Arc::new(
+            alloc,
+            Meeting {
+                reading: AtomicBool::new(false),
+                writing: AtomicBool::new(false),
+                met: AtomicBool::new(false),
+            },
+        )?)
+    }
+}
+
+/// A shelf whose file `c.pcap` has the packets. The first read returns the file header and a part of the first record.
+/// Each later read completes a record.
+fn meeting_shelf(alloc: Global, meeting: &Arc<Meeting, Global>) -> Result<MeetingShelf, NoMemory> {
+    let capture = seconds_apart(alloc, 16)?;
+    Ok(MeetingShelf {
+        shelf: shelf_of(alloc, &capture)?.at_most(82),
+        meeting: meeting.clone()?,
+        reads: 0,
+    })
+}
+
+fn meeting_sink(alloc: Global, meeting: &Arc<Meeting, Global>) -> Result<MeetingSink, NoMemory> {
+    Ok(MeetingSink {
+        sink: MemorySink::over(alloc, Vec::new(alloc)),
+        meeting: meeting.clone()?,
+    })
+}
+
+/// Whether `listen` ends well over a shelf and prints this end.
+fn ends_with<T: Threads + Sync>(
+    rt: &T,
+    alloc: Global,
+    meeting: &Arc<Meeting, Global>,
+    end: &str,
+) -> Result<bool, NoMemory> {
+    let mut shelf = meeting_shelf(alloc, meeting)?;
+    let mut sink = meeting_sink(alloc, meeting)?;
+    let line = "listen --ring 4 0200000000010001 c.pcap";
+    let status = status_without_devices(rt, alloc, line, &mut shelf, &mut sink, &NoGate)?;
+    Ok(status == Status::Done && sink.sink.bytes().ends_with(end.as_bytes()))
+}
+
 /// One packet arrives each second, and makes the packet before it due. There are more packets than the ring has room
 /// for, so both threads have work in the second round at the latest.
 #[test]
 fn one_thread_reads_while_the_other_writes(rt: HostRuntime) -> Result<(), NoMemory> {
-    let alloc = rt.alloc();
-    let meeting = Arc::new(
-        alloc,
-        Meeting {
-            reading: AtomicBool::new(false),
-            writing: AtomicBool::new(false),
-            met: AtomicBool::new(false),
-        },
-    )?;
-    // The first read returns the file header and a part of the first record. Each later read completes a record.
-    let mut shelf = MeetingShelf {
-        shelf: shelf_of(alloc, seconds_apart(alloc, 16)?)?.at_most(82),
-        meeting: meeting.clone()?,
-        reads: 0,
-    };
-    let mut sink = MeetingSink {
-        sink: MemorySink::over(alloc, Vec::new(alloc)),
-        meeting: meeting.clone()?,
-    };
-    let words = words_of(alloc, "listen --ring 4 0200000000010001 c.pcap")?;
-    let mut rack = Rack::over(Vec::new(alloc));
-    let status = run(
-        &rt, alloc, &words, &mut shelf, &mut sink, &NoGate, &mut rack,
-    );
-    assert_eq!(rt; status, Status::Done);
+    let meeting = Meeting::new(rt.alloc())?;
+    let end = "\nend frames 16 packets 16 presented 16 flagged 0\n";
+    let is_whole = ends_with(&rt, rt.alloc(), &meeting, end)?;
+    assert!(rt; is_whole);
     assert!(rt; meeting.met.load(Ordering::SeqCst));
-    let end = b"\nend frames 16 packets 16 presented 16 flagged 0\n";
-    assert!(rt; sink.sink.bytes().ends_with(end));
     Ok(())
 }

@@ -1,6 +1,6 @@
 //! The command `show`.
 
-use crate::transcript::follow;
+use crate::transcript::follow_each;
 use avtp_base::NoMemory;
 
 const CAPTURES: &str = "\
@@ -98,13 +98,6 @@ capture c.pcap
 end frames 1 packets 0 presented 0 flagged 0
 ";
 
-#[test]
-fn a_capture_is_shown_up_to_its_end_its_limit_or_its_first_refusal(
-    rt: HostRuntime,
-) -> Result<(), NoMemory> {
-    follow(&rt, rt.alloc(), CAPTURES)
-}
-
 /// Big- and little-endian captures, in microseconds and in nanoseconds.
 const STYLES: &str = "\
 < c.pcap xd4c3b2a1020004000000000000000000000004000100000001000000000000004200000042000000
@@ -132,11 +125,6 @@ $ show c.pcap
 frame 1 at 1000500000 aaf id 0200000000010001 seq 0 ts 1002000000 *
 end frames 1
 ";
-
-#[test]
-fn arrivals_are_nanoseconds_in_each_style_of_capture(rt: HostRuntime) -> Result<(), NoMemory> {
-    follow(&rt, rt.alloc(), STYLES)
-}
 
 const PACKETS: &str = "\
 < c.pcap V2 capture:1000000000
@@ -197,11 +185,6 @@ frame 1 at 1000000000 crf id 0200000000010002 seq 9 mr 1 tu 1 type 4 base 48000 
 end frames 1
 ";
 
-#[test]
-fn each_packet_is_shown_with_its_fields(rt: HostRuntime) -> Result<(), NoMemory> {
-    follow(&rt, rt.alloc(), PACKETS)
-}
-
 /// The packet begins at byte 18 of its frame.
 const REFUSED: &str = "\
 < c.pcap V2 26=48 capture:1000000000
@@ -230,7 +213,18 @@ frame 1 at 1000000000 refused timestamp_interval at 36 short
 end frames 1
 ";
 
+/// The transcripts of runs of `show`, each after its title.
+const TRANSCRIPTS: [(&str, &str); 4] = [
+    (
+        "a capture is shown up to its end, its limit or its first refusal",
+        CAPTURES,
+    ),
+    ("arrivals are nanoseconds in each style of capture", STYLES),
+    ("each packet is shown with its fields", PACKETS),
+    ("a packet is refused by its first bad field", REFUSED),
+];
+
 #[test]
-fn a_packet_is_refused_by_its_first_bad_field(rt: HostRuntime) -> Result<(), NoMemory> {
-    follow(&rt, rt.alloc(), REFUSED)
+fn show_prints_what_its_transcripts_state(rt: HostRuntime) -> Result<(), NoMemory> {
+    follow_each(&rt, rt.alloc(), &TRANSCRIPTS)
 }

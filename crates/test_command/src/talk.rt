@@ -1,7 +1,7 @@
 //! The commands `talk` and `soak`.
 
 use crate::recipe::bytes_of;
-use crate::transcript::{Bench, follow};
+use crate::transcript::{follow, follow_each};
 use avtp_base::NoMemory;
 
 const VECTORS: &str = "\
@@ -33,11 +33,6 @@ capture c.pcap
 at 1002000000 frame 1 seq 0 sample 0 6742000a
 end frames 1 packets 1 presented 1 flagged 0
 ";
-
-#[test]
-fn the_vectors_are_what_is_talked(rt: HostRuntime) -> Result<(), NoMemory> {
-    follow(&rt, rt.alloc(), VECTORS)
-}
 
 const REFUSED: &str = "\
 < a.raw V1/103
@@ -76,11 +71,6 @@ read fault
 [4]
 ";
 
-#[test]
-fn words_and_inputs_that_make_no_capture_leave_none(rt: HostRuntime) -> Result<(), NoMemory> {
-    follow(&rt, rt.alloc(), REFUSED)
-}
-
 /// Sample 5 of packet 999 is 5,999 sample frames after 1.002 s. Sample 5 of packet 3,999 is 23,999 sample frames after
 /// 1.002 s.
 const HEARD: &str = "\
@@ -115,11 +105,6 @@ at 1002000000 frame 3 seq 2 sample 0 65ffff*
 end frames 3 packets 3 presented 1 flagged 0
 ";
 
-#[test]
-fn what_is_talked_is_heard_whole(rt: HostRuntime) -> Result<(), NoMemory> {
-    follow(&rt, rt.alloc(), HEARD)
-}
-
 /// One second of stereo at 48 kHz. The packets before the clock's second timestamp have no media clock.
 const CLOCKS: &str = "\
 < a.raw noise:192000
@@ -140,13 +125,6 @@ at 1004000000 frame 19 seq 16 sample 0 *
 end frames 8500 packets 8000 presented 7984 flagged 16
 ";
 
-#[test]
-fn a_second_beside_a_clock_is_heard_on_it_from_the_second_point_on(
-    rt: HostRuntime,
-) -> Result<(), NoMemory> {
-    follow(&rt, rt.alloc(), CLOCKS)
-}
-
 const OTHER_CLOCKS: &str = "\
 < a.raw noise:192000
 $ talk --crf 0200000000010002 --crf-rate 44100 --crf-interval 147 a.raw c.pcap
@@ -161,11 +139,6 @@ at *
 ...
 end frames 8300 packets 8000 presented 7973 flagged 27
 ";
-
-#[test]
-fn a_second_beside_a_clock_of_another_rate_is_heard_on_it(rt: HostRuntime) -> Result<(), NoMemory> {
-    follow(&rt, rt.alloc(), OTHER_CLOCKS)
-}
 
 /// After a lost timestamp or a restart, the packets of a sparse stream are untimed until the next packet that has a
 /// timestamp. The timestamp of a packet that was sent 256 packets earlier is not used.
@@ -213,13 +186,6 @@ at 1005000000 frame 17 seq 16 sample 0 *
 end frames 20 packets 20 presented 14 flagged 6
 ";
 
-#[test]
-fn a_sparse_stream_is_known_from_a_stamp_of_its_own_run_on(
-    rt: HostRuntime,
-) -> Result<(), NoMemory> {
-    follow(&rt, rt.alloc(), SPARSE)
-}
-
 /// If one packet is sent, the only copy of this packet arrives 0.48 ms after the packet's presentation time. If two
 /// packets are sent, the second packet arrives exactly at its presentation time.
 const SOAKS: &str = "\
@@ -239,11 +205,6 @@ words: 1
 [2]
 ";
 
-#[test]
-fn a_soak_counts_what_comes_of_its_packets(rt: HostRuntime) -> Result<(), NoMemory> {
-    follow(&rt, rt.alloc(), SOAKS)
-}
-
 const RATES: [&str; 10] = [
     "8000", "16000", "24000", "32000", "44100", "48000", "88200", "96000", "176400", "192000",
 ];
@@ -261,39 +222,64 @@ const FORMATS: [(&str, &str); 4] = [
 fn a_packet_of_each_format_and_rate_is_shown_as_it_was_asked_for(
     rt: HostRuntime,
 ) -> Result<(), NoMemory> {
-    let alloc = rt.alloc();
     for (format, size) in FORMATS {
         for rate in RATES {
-            let mut bench = Bench::new(alloc);
-            bench.put("a.raw", bytes_of(alloc, "noise:24")?)?;
-            let line = format!(in alloc; "talk --rate {rate} --format {format} a.raw c.pcap")?;
-            let _ = bench.run(&rt, &line)?;
-            let text = bench.run(&rt, "show c.pcap")?;
-            let shown = format!(in alloc;
-                " format {format} rate {rate} channels 2 {size}\nend frames 1\n"
+            let lines = format!(in rt.alloc();
+                "\
+< a.raw noise:24
+$ talk --rate {rate} --format {format} a.raw c.pcap
+...
+$ show c.pcap
+frame 1 at 1000000000 aaf id 0200000000010001 seq 0 ts 1002000000 tv 1 tu 0 mr 0 sp 0 evt 0 format {format} rate {rate} channels 2 {size}
+end frames 1
+"
             )?;
-            assert!(rt; text.ends_with(shown.as_str()), "{line}: {text}");
+            follow(&rt, rt.alloc(), format, &lines)?;
         }
     }
     Ok(())
 }
 
+/// One sample frame of 1,023 channels of 32 bits has 4,092 bytes. The record with this wide sample frame has 4,134
+/// captured bytes.
 #[test]
 fn a_sample_longer_than_a_piece_of_digits_is_printed_whole(
     rt: HostRuntime,
 ) -> Result<(), NoMemory> {
-    let alloc = rt.alloc();
-    let mut bench = Bench::new(alloc);
-    // One sample frame of 1,023 channels of 32 bits has 4,092 bytes. The record with this wide sample frame has 4,134
-    // captured bytes.
-    let wide = "V1 32=2610 36=2610 74=0253ff20 78=0ffc ..82 noise:4092";
-    let capture = bytes_of(alloc, wide)?;
-    let digits = hex::encode(alloc, capture.get(82..).unwrap_or(&[]))?;
-    bench.put("c.pcap", capture)?;
-    let text = bench.run(&rt, "listen 0200000000010001 c.pcap")?;
-    let stated = format!(in alloc;
-        "capture c.pcap\nat 1002000000 frame 1 seq 0 sample 0 {digits}\nend frames 1 packets 1 presented 1 flagged 0\n"
+    let digits = hex::encode(rt.alloc(), bytes_of(rt.alloc(), "noise:4092")?)?;
+    let lines = format!(in rt.alloc();
+        "\
+< c.pcap V1 32=2610 36=2610 74=0253ff20 78=0ffc ..82 noise:4092
+$ listen 0200000000010001 c.pcap
+capture c.pcap
+at 1002000000 frame 1 seq 0 sample 0 {digits}
+end frames 1 packets 1 presented 1 flagged 0
+"
     )?;
-    assert_eq!(rt; text.as_str(), stated.as_str());
-    Ok(())
+    follow(&rt, rt.alloc(), "a wide sample frame", &lines)
+}
+
+/// The transcripts of runs of `talk`, each after its title.
+const TRANSCRIPTS: [(&str, &str); 7] = [
+    ("the vectors are what is talked", VECTORS),
+    ("words and inputs that make no capture leave none", REFUSED),
+    ("what is talked is heard whole", HEARD),
+    (
+        "a second beside a clock is heard on it from the second point on",
+        CLOCKS,
+    ),
+    (
+        "a second beside a clock of another rate is heard on it",
+        OTHER_CLOCKS,
+    ),
+    (
+        "a sparse stream is known from a stamp of its own run on",
+        SPARSE,
+    ),
+    ("a soak counts what comes of its packets", SOAKS),
+];
+
+#[test]
+fn talk_prints_what_its_transcripts_state(rt: HostRuntime) -> Result<(), NoMemory> {
+    follow_each(&rt, rt.alloc(), &TRANSCRIPTS)
 }

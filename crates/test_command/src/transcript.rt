@@ -13,12 +13,8 @@
 
 use crate::devices::rack_of;
 use crate::recipe::{bytes_of, number};
+use crate::runs::{Files, Outcome, Way, last_word, ran_over};
 use avtp_base::NoMemory;
-use avtp_memory::{MemoryShelf, MemorySink};
-use avtp_tool::run;
-use device_rack::Rack;
-use presenter_ring::NoGate;
-use run_report::Status;
 use std::alloc::Global;
 use std::process::Abort;
 use std::thread::Threads;
@@ -27,33 +23,12 @@ use std::thread::Threads;
 #[derive(Drop)]
 pub struct Bench {
     alloc: Global,
-    files: Vec<(String, Vec<u8>)>,
+    files: Files,
     shelf_fails: u64,
     sink_fails: u64,
     device_fails: [u64; 3],
     took: [u64; 3],
     status: u8,
-}
-
-/// The words of a command line.
-pub fn words_of(alloc: Global, line: &str) -> Result<Vec<String>, NoMemory> {
-    let mut words = Vec::new(alloc);
-    for word in line.split_ascii_whitespace() {
-        words.push(String::from_str(alloc, word)?)?;
-    }
-    Ok(words)
-}
-
-/// Runs the command.
-pub fn status_of<T: Threads + Sync>(
-    rt: &T,
-    alloc: Global,
-    words: &[String],
-    shelf: &mut MemoryShelf,
-    sink: &mut MemorySink,
-    rack: &mut Rack,
-) -> Status {
-    run(rt, alloc, words, shelf, sink, &NoGate, rack)
 }
 
 impl Bench {
@@ -68,6 +43,10 @@ impl Bench {
             took: [0; 3],
             status: 0,
         }
+    }
+
+    pub fn alloc(&self) -> Global {
+        self.alloc
     }
 
     /// The bytes of a file.
@@ -87,43 +66,46 @@ impl Bench {
         Ok(())
     }
 
-    /// A shelf of copies of the files.
-    fn shelf(&self) -> Result<MemoryShelf, NoMemory> {
+    fn copies(&self) -> Result<Files, NoMemory> {
         let mut files = Vec::new(self.alloc);
         for (name, bytes) in &self.files {
             files.push((name.clone()?, bytes.clone()?))?;
         }
-        let fails = Vec::from_slice(self.alloc, &[self.shelf_fails])?;
-        Ok(MemoryShelf::over(self.alloc, files, fails))
+        Ok(files)
+    }
+
+    /// Runs the command over copies of the files, and notes what the devices took.
+    fn outcome<T: Threads + Sync>(&mut self, rt: &T, line: &str) -> Result<Outcome, NoMemory> {
+        let way = Way {
+            line,
+            shelf_fails: self.shelf_fails,
+            sink_fails: self.sink_fails,
+            most: usize::MAX,
+        };
+        let files = self.copies()?;
+        let (mut rack, notes) = rack_of(self.alloc, self.device_fails)?;
+        let outcome = ran_over(rt, self.alloc, &way, files, &mut rack);
+        drop(rack);
+        self.took = notes.taken();
+        outcome
     }
 
     /// Runs the command, and returns its text. Afterwards, the file that the last word names is as the command left it.
     pub fn run<T: Threads + Sync>(&mut self, rt: &T, line: &str) -> Result<String, NoMemory> {
-        let words = words_of(self.alloc, line)?;
-        let mut shelf = self.shelf()?;
-        let fails = Vec::from_slice(self.alloc, &[self.sink_fails])?;
-        let mut sink = MemorySink::over(self.alloc, fails);
-        let (mut rack, notes) = rack_of(self.alloc, self.device_fails)?;
-        let status = status_of(rt, self.alloc, &words, &mut shelf, &mut sink, &mut rack);
-        drop(rack);
-        let [first, second, third] = &notes;
-        self.took = [first.taken(), second.taken(), third.taken()];
+        let Outcome { status, text, made } = self.outcome(rt, line)?;
         self.status = status.code();
         self.shelf_fails = 0;
         self.sink_fails = 0;
         self.device_fails = [0; 3];
-        self.keep(&shelf, &words)?;
-        let text = str::from_utf8(sink.bytes()).unwrap_or("no text");
-        Ok(String::from_str(self.alloc, text)?)
+        self.keep(last_word(line), made)?;
+        Ok(text)
     }
 
-    fn keep(&mut self, shelf: &MemoryShelf, words: &[String]) -> Result<(), NoMemory> {
-        if let Some(name) = words.last()
-            && let Some(bytes) = shelf.file(name.as_str())
-            && bytes != self.file(name.as_str())
+    fn keep(&mut self, name: &str, made: Option<Vec<u8>>) -> Result<(), NoMemory> {
+        if let Some(bytes) = made
+            && bytes.as_slice() != self.file(name)
         {
-            let copy = Vec::from_slice(self.alloc, bytes)?;
-            self.put(name.as_str(), copy)?;
+            self.put(name, bytes)?;
         }
         Ok(())
     }
@@ -146,18 +128,27 @@ impl Bench {
     }
 
     fn assert_line(&self, rt: &impl Abort, sign: &str, rest: &str) -> Result<(), NoMemory> {
-        let (name, steps) = rest.split_once(' ').unwrap_or((rest, ""));
-        match sign {
-            "?" => {
-                let stated = bytes_of(self.alloc, steps)?;
-                assert!(rt; self.file(name) == stated.as_slice(), "? {rest}");
-            }
-            "~" => assert!(rt; self.file(name) == self.file(steps), "~ {rest}"),
-            "#" => assert_eq!(rt; self.file(name).len(), number(steps), "# {rest}"),
-            "=" => assert_eq!(rt; self.took, three_numbers(rest), "= {rest}"),
-            _ => {}
-        }
+        let is_true = self.is_true(sign, rest)?;
+        let (name, _) = rest.split_once(' ').unwrap_or((rest, ""));
+        let (size, took) = (self.file(name).len(), self.took);
+        assert!(rt;
+            is_true,
+            "{sign} {rest}: {size} bytes, the devices took {took:?}"
+        );
         Ok(())
+    }
+
+    /// Whether a line says what is so of a file or of the devices. Any other line is true.
+    fn is_true(&self, sign: &str, rest: &str) -> Result<bool, NoMemory> {
+        let (name, steps) = rest.split_once(' ').unwrap_or((rest, ""));
+        let file = self.file(name);
+        match sign {
+            "?" => Ok(file == bytes_of(self.alloc, steps)?.as_slice()),
+            "~" => Ok(file == self.file(steps)),
+            "#" => Ok(file.len() == number(steps)),
+            "=" => Ok(self.took == three_numbers(rest)),
+            _ => Ok(true),
+        }
     }
 
     fn add(&mut self, name: &str, steps: &str) -> Result<(), NoMemory> {
@@ -199,6 +190,17 @@ pub fn numbers_in(alloc: Global, text: &str) -> Result<Vec<usize>, NoMemory> {
         numbers.push(number(word))?;
     }
     Ok(numbers)
+}
+
+/// The columns of a row, of which there are at most five.
+pub fn columns(row: &str) -> [&str; 5] {
+    let mut columns = [""; 5];
+    for (place, column) in row.split(" | ").enumerate() {
+        if let Some(held) = columns.get_mut(place) {
+            *held = column;
+        }
+    }
+    columns
 }
 
 /// The records of a capture with a file header of 24 bytes and lengths in little endian.
@@ -280,10 +282,31 @@ fn other_line<'a>(text: &'a str, stated: &[&str]) -> Option<&'a str> {
     None
 }
 
-/// Follows a transcript.
+/// Asserts that a run printed the text that the lines state, and ended with their status. `place` names the command line
+/// of the run and its transcript.
+fn assert_ran(
+    rt: &impl Abort,
+    bench: &Bench,
+    place: [&str; 2],
+    text: &str,
+    lines: &str,
+) -> Result<(), NoMemory> {
+    let other = other_line(text, &stated_text(bench.alloc, lines)?);
+    let status = bench.status;
+    let is_stated = other.is_none() && usize::from(status) == stated_status(lines);
+    let [title, words] = place;
+    assert!(rt;
+        is_stated,
+        "{title}: status {status} and {other:?} after {words}"
+    );
+    Ok(())
+}
+
+/// Follows a transcript with this title.
 pub fn follow<T: Threads + Sync + Abort>(
     rt: &T,
     alloc: Global,
+    title: &str,
     transcript: &str,
 ) -> Result<(), NoMemory> {
     let mut bench = Bench::new(alloc);
@@ -292,14 +315,20 @@ pub fn follow<T: Threads + Sync + Abort>(
     for part in runs.split("$ ") {
         let (words, lines) = part.split_once('\n').unwrap_or((part, ""));
         let text = bench.run(rt, words)?;
-        let stated = stated_text(alloc, lines)?;
-        assert_eq!(rt; other_line(text.as_str(), &stated), None, "after {words}");
-        assert_eq!(rt;
-            usize::from(bench.status),
-            stated_status(lines),
-            "after {words}"
-        );
+        assert_ran(rt, &bench, [title, words], text.as_str(), lines)?;
         bench.follow(rt, lines)?;
+    }
+    Ok(())
+}
+
+/// Follows each transcript of a table. A row has the title of a transcript, and the transcript.
+pub fn follow_each<T: Threads + Sync + Abort>(
+    rt: &T,
+    alloc: Global,
+    transcripts: &[(&str, &str)],
+) -> Result<(), NoMemory> {
+    for (title, transcript) in transcripts {
+        follow(rt, alloc, title, transcript)?;
     }
     Ok(())
 }
