@@ -36,15 +36,9 @@ impl Bases {
     /// Makes the records of the vectors and the records of each talker's stream.
     pub fn new<T: Threads + Sync>(rt: &T, alloc: Global) -> Result<Self, NoMemory> {
         let input = input(alloc)?;
-        let labelled = labelled(alloc, &input)?;
         let mut streams = Vec::new(alloc);
         streams.push(vectors(alloc)?)?;
-        for options in TALKS {
-            let is_am824 = options.starts_with("--kind am824");
-            let samples = if is_am824 { &labelled } else { &input };
-            let capture = talked(rt, alloc, options, samples)?;
-            streams.push(records_of(alloc, &capture, MOST)?)?;
-        }
+        add_talked(rt, alloc, &input, &mut streams)?;
         Ok(Bases { input, streams })
     }
 
@@ -66,6 +60,33 @@ impl Bases {
         let part = self.input.get(..size - size % 24).unwrap_or(&[]);
         Ok(Vec::from_slice(alloc, part)?)
     }
+}
+
+/// Adds the records of each talker's stream.
+fn add_talked<T: Threads + Sync>(
+    rt: &T,
+    alloc: Global,
+    input: &[u8],
+    streams: &mut Vec<Vec<Record>>,
+) -> Result<(), NoMemory> {
+    let labelled = labelled(alloc, input)?;
+    for options in TALKS {
+        let is_am824 = options.starts_with("--kind am824");
+        let samples = if is_am824 { labelled.as_slice() } else { input };
+        streams.push(stream_of(rt, alloc, options, samples)?)?;
+    }
+    Ok(())
+}
+
+/// The records of a talker's stream.
+fn stream_of<T: Threads + Sync>(
+    rt: &T,
+    alloc: Global,
+    options: &str,
+    samples: &[u8],
+) -> Result<Vec<Record>, NoMemory> {
+    let capture = talked(rt, alloc, options, samples)?;
+    records_of(alloc, &capture, MOST)
 }
 
 /// One input for all talkers. For each talker, the input consists of whole sample frames. The input is also an H.264
@@ -97,10 +118,15 @@ fn vectors(alloc: Global) -> Result<Vec<Record>, NoMemory> {
     let first = vector(alloc, 1)?;
     let mut records = records_of(alloc, &first, MOST)?;
     for n in 2..5 {
-        let mut frame = Vec::from_slice(alloc, first.get(40..58).unwrap_or(&[]))?;
-        frame.extend_from_slice(&vector(alloc, n)?)?;
-        let at = 1_000_000_000;
-        records.push(Record { at, frame })?;
+        records.push(framed(alloc, &first, &vector(alloc, n)?)?)?;
     }
     Ok(records)
+}
+
+/// A record of a packet, in a frame like that of the first vector.
+fn framed(alloc: Global, first: &[u8], packet: &[u8]) -> Result<Record, NoMemory> {
+    let mut frame = Vec::from_slice(alloc, first.get(40..58).unwrap_or(&[]))?;
+    frame.extend_from_slice(packet)?;
+    let at = 1_000_000_000;
+    Ok(Record { at, frame })
 }

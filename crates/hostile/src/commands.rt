@@ -7,6 +7,7 @@ use device_rack::Rack;
 use presenter_ring::NoGate;
 use regex::Matcher;
 use std::alloc::Global;
+use std::str::from_utf8;
 use std::thread::Threads;
 
 /// The name of the file that commands read.
@@ -43,20 +44,41 @@ fn report_of<T: Threads + Sync>(
 ) -> Result<Report, NoMemory> {
     let words = words_of(alloc, line)?;
     let mut sink = MemorySink::over(alloc, Vec::new(alloc));
+    let status = status_of(rt, alloc, &words, shelf, &mut sink);
+    let command = words.get(0).map_or("", |word| word.as_str());
+    let made = shelf.file(OUT);
+    Ok(Report {
+        text: text_of(alloc, command, sink.bytes(), made, status)?,
+        made: Vec::from_slice(alloc, made.unwrap_or(&[]))?,
+    })
+}
+
+/// Runs a command over the files of a shelf, and returns the code of its status.
+fn status_of<T: Threads + Sync>(
+    rt: &T,
+    alloc: Global,
+    words: &[String],
+    shelf: &mut MemoryShelf,
+    sink: &mut MemorySink,
+) -> u8 {
     let mut rack = Rack::over(Vec::new(alloc));
-    let status = run(rt, alloc, &words, shelf, &mut sink, &NoGate, &mut rack);
-    let printed = String::from_utf8(Vec::from_slice(alloc, sink.bytes())?);
-    let mut made = Vec::new(alloc);
-    let mut text = String::new(alloc);
-    text.push_str(words.get(0).map_or("", |word| word.as_str()))?;
-    text.push_str("\n")?;
-    text.push_str(printed.unwrap_or(String::new(alloc)).as_str())?;
-    if let Some(bytes) = shelf.file(OUT) {
-        made.extend_from_slice(bytes)?;
-        text.push_str(format!(in alloc; "made {}\n", bytes.len())?.as_str())?;
-    }
-    text.push_str(format!(in alloc; "status {}\n", status.code())?.as_str())?;
-    Ok(Report { text, made })
+    run(rt, alloc, words, shelf, sink, &NoGate, &mut rack).code()
+}
+
+/// The text of a report.
+fn text_of(
+    alloc: Global,
+    command: &str,
+    printed: &[u8],
+    made: Option<&[u8]>,
+    status: u8,
+) -> Result<String, NoMemory> {
+    let printed = from_utf8(printed).unwrap_or("");
+    let Some(made) = made else {
+        return Ok(format!(in alloc; "{command}\n{printed}status {status}\n")?);
+    };
+    let size = made.len();
+    Ok(format!(in alloc; "{command}\n{printed}made {size}\nstatus {status}\n")?)
 }
 
 fn words_of(alloc: Global, line: &str) -> Result<Vec<String>, NoMemory> {
@@ -69,8 +91,14 @@ fn words_of(alloc: Global, line: &str) -> Result<Vec<String>, NoMemory> {
 
 fn shelf_of(alloc: Global, file: &[u8]) -> Result<MemoryShelf, NoMemory> {
     let mut files = Vec::new(alloc);
-    files.push((String::from_str(alloc, IN)?, Vec::from_slice(alloc, file)?))?;
+    files.push(named(alloc, file)?)?;
     Ok(MemoryShelf::over(alloc, files, Vec::new(alloc)))
+}
+
+/// A file and its name.
+fn named(alloc: Global, file: &[u8]) -> Result<(String, Vec<u8>), NoMemory> {
+    let bytes = Vec::from_slice(alloc, file)?;
+    Ok((String::from_str(alloc, IN)?, bytes))
 }
 
 /// Runs a command line three times over a file, and returns what is wrong, or `None`. The last run reads the file in
@@ -87,14 +115,23 @@ pub fn wrong_with<T: Threads + Sync>(
     if !grammar.is_match(first.text.as_str()) {
         return Ok(Some(Wrong::Text));
     }
-    if report_of(rt, alloc, line, &mut shelf)? != first {
+    if differs(rt, alloc, line, &mut shelf, &first)? {
         return Ok(Some(Wrong::SecondRun));
     }
     let mut pieces = shelf.at_most(1);
-    if report_of(rt, alloc, line, &mut pieces)? != first {
-        return Ok(Some(Wrong::Pieces));
-    }
-    Ok(None)
+    let wrong = differs(rt, alloc, line, &mut pieces, &first)?;
+    Ok(wrong.then_some(Wrong::Pieces))
+}
+
+/// Runs a command line over the files of a shelf, and returns whether its report differs from the first one.
+fn differs<T: Threads + Sync>(
+    rt: &T,
+    alloc: Global,
+    line: &str,
+    shelf: &mut MemoryShelf,
+    first: &Report,
+) -> Result<bool, NoMemory> {
+    Ok(report_of(rt, alloc, line, shelf)? != *first)
 }
 
 /// The capture that `talk` makes of an input.

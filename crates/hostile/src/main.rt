@@ -17,7 +17,7 @@ mod trials;
 use crate::bases::Bases;
 use crate::draws::Draws;
 use crate::grammar::pattern;
-use crate::trials::try_commands;
+use crate::trials::{Found, try_commands};
 use regex::Regex;
 use std::env;
 use std::process::ExitCode;
@@ -35,6 +35,13 @@ struct Asked {
     first: u64,
 }
 
+impl Asked {
+    /// The number after that of the last capture.
+    fn end(&self) -> u64 {
+        self.first.saturating_add(self.count)
+    }
+}
+
 fn main(rt: HostRuntime) -> ExitCode {
     match run_all(&rt, &rt) {
         Some(0) => ExitCode::SUCCESS,
@@ -44,37 +51,61 @@ fn main(rt: HostRuntime) -> ExitCode {
 
 /// What the arguments ask for.
 fn read_words(rt: &HostRuntime) -> Option<Asked> {
-    let words: Vec<String> = env::args(rt).ok()?.skip(1).collect(rt.alloc()).ok()?;
-    let first = words.get(2).map_or("1", |word| word.as_str());
+    let words = words_of(rt)?;
     Some(Asked {
-        seed: words.get(0)?.parse().ok()?,
-        count: words.get(1)?.parse().ok()?,
-        first: first.parse().ok()?,
+        seed: number(&words, 0)?,
+        count: number(&words, 1)?,
+        first: if words.len() > 2 {
+            number(&words, 2)?
+        } else {
+            1
+        },
     })
+}
+
+fn words_of(rt: &HostRuntime) -> Option<Vec<String>> {
+    env::args(rt).ok()?.skip(1).collect(rt.alloc()).ok()
+}
+
+fn number(words: &[String], place: usize) -> Option<u64> {
+    words.get(place)?.parse().ok()
 }
 
 /// Makes all captures, and returns how many commands were wrong.
 fn run_all<T: Threads + Sync>(rt: &HostRuntime, threads: &T) -> Option<u64> {
+    let asked = read_words(rt)?;
+    let bases = Bases::new(threads, rt.alloc()).ok()?;
+    let wrong = try_all(rt, threads, &bases, asked)?;
+    let Asked { seed, count, first } = asked;
+    let runs = asked.end().saturating_sub(first).saturating_mul(RUNS);
+    println!(rt; "seed {seed} captures {count} runs {runs} wrong {wrong}").ok()?;
+    Some(wrong)
+}
+
+/// Runs every command over each damaged capture, and prints the commands that are wrong. Returns how many there are.
+fn try_all<T: Threads + Sync>(
+    rt: &HostRuntime,
+    threads: &T,
+    bases: &Bases,
+    asked: Asked,
+) -> Option<u64> {
     let alloc = rt.alloc();
-    let Asked { seed, count, first } = read_words(rt)?;
-    let bases = Bases::new(threads, alloc).ok()?;
     let pattern = pattern(alloc).ok()?;
     let regex = Regex::new(alloc, pattern.as_str()).ok()?;
     let mut grammar = regex.matcher(alloc).ok()?;
-    let mut runs: u64 = 0;
     let mut wrong: u64 = 0;
-    for number in first..first.saturating_add(count) {
-        let mut draws = Draws::of(seed, number);
-        runs = runs.saturating_add(RUNS);
-        for found in try_commands(threads, alloc, &mut grammar, &bases, &mut draws).ok()? {
-            wrong = wrong.saturating_add(1);
-            println!(rt;
-                "seed {seed} number {number} {:?}: {}",
-                found.wrong, found.line
-            )
-            .ok()?;
-        }
+    for number in asked.first..asked.end() {
+        let mut draws = Draws::of(asked.seed, number);
+        let found = try_commands(threads, alloc, &mut grammar, bases, &mut draws).ok()?;
+        print_found(rt, asked.seed, number, &found)?;
+        wrong = wrong.saturating_add(found.len() as u64);
     }
-    println!(rt; "seed {seed} captures {count} runs {runs} wrong {wrong}").ok()?;
     Some(wrong)
+}
+
+fn print_found(rt: &HostRuntime, seed: u64, number: u64, found: &[Found]) -> Option<()> {
+    for Found { wrong, line } in found {
+        println!(rt; "seed {seed} number {number} {wrong:?}: {line}").ok()?;
+    }
+    Some(())
 }
