@@ -1,6 +1,7 @@
 -- The run of `agree`.
 use Rattle.std.proofs.Common.{◌≡◌, ℕ, List, Option, Some, None, inl, refl, sym, subst, [], ◌∷◌, inr, ◌∙◌, Result, ◌++◌, Ok, Err, ◌≢◌, true, false, zero, suc, arith, ℤ, length, take, ap}
 use Rattle.std.specs.Prelude.{IsSome, ◌==◌, if◌then◌else◌, Contains}
+use Rattle.avtp_base.specs.declared.failed.FaultPlace.{FaultPlace}
 use Rattle.avtp_base.specs.Files.{Files}
 use Rattle.avtp_words.specs.Grammar.{Agreeing}
 use Rattle.avtp_text.specs.Notices.{read_fault_line}
@@ -14,7 +15,7 @@ use Rattle.avtp_base.specs.Told.{Appends}
 use Rattle.avtp_base.proofs.Told.{Appends-trans}
 use Rattle.capture_io.specs.declared.end.End.{End}
 use Rattle.avtp_base.specs.declared.failed.OpenFault.{OpenFault}
-use Rattle.avtp_base.specs.Faults.{Rose}
+use Rattle.avtp_base.specs.Faults.{FailsAt, HasOneMore, ReadingFaults}
 use Rattle.capture_io.specs.Source.{Sourcing, slot_of}
 use Rattle.capture_io.specs.Reads.{OnlyReads}
 use Rattle.avtp_base.proofs.Files.{KeepsFiles-trans}
@@ -73,7 +74,7 @@ unread_b asked None b some = absurd cc
 unread_b asked (Some x) None some = (refl, refl)
 unread_b asked (Some x) (Some y) some = (refl, refl)
 
-module _ (asked : Agreeing) (files : Files) (fault : Type 0) where
+module _ (asked : Agreeing) (files : Files) (fault : FaultPlace → Type 0) where
   -- A was not opened
   without_a : IsUnopened files fault asked.a → AgreeYields asked files fault (asked.a ∷ []) status.ReadFault (says read_fault_line)
   without_a (inl is) = (no_halt, tt, rw is refl)
@@ -93,24 +94,24 @@ module _ (asked : Agreeing) (files : Files) (fault : Type 0) where
       → AgreeYields asked files fault (asked.a ∷ asked.b ∷ []) status.ReadFault (says (text_without_a asked prefix y))
   cut_a x y prefix is_a is_b ends =
       let at = stopped_at asked.listener.limit x prefix fault ends in
-      (stopped_after zero (length prefix), (at.1, rw is_a at.2), rw (is_a, is_b) (ap (λ (p : List ℕ). agreed asked status.ReadFault (text_without_a asked p y)) at.0))
+      (stopped_after zero (length prefix), rw is_a at.1, rw (is_a, is_b) (ap (λ (p : List ℕ). agreed asked status.ReadFault (text_without_a asked p y)) at.0))
 
   -- a read fault occurred after a prefix of B
   cut_b : (x y prefix : List ℕ) → files asked.a ≡ Some x → files asked.b ≡ Some y → EndsAt asked.listener.limit (Some y) fault end.ReadFault prefix
       → AgreeYields asked files fault (asked.a ∷ asked.b ∷ []) status.ReadFault (says (text_without_b asked x prefix))
   cut_b x y prefix is_a is_b ends =
       let at = stopped_at asked.listener.limit y prefix fault ends in
-      (stopped_after (suc zero) (length prefix), (at.1, rw is_b at.2), rw (is_a, is_b) (ap (λ (p : List ℕ). agreed asked status.ReadFault (text_without_b asked x p)) at.0))
+      (stopped_after (suc zero) (length prefix), rw is_b at.1, rw (is_a, is_b) (ap (λ (p : List ℕ). agreed asked status.ReadFault (text_without_b asked x p)) at.0))
 
 -- ---- both files were opened
 
-pub agree_cut : (asked : Agreeing) (all : Files) (fault : Type 0) {s t : ShelfState} {before now : Option (List ℕ)} {result : Result Status Failed} (x y : List ℕ) → all asked.a ≡ Some x → all asked.b ≡ Some y → IsCut result
+pub agree_cut : (asked : Agreeing) (all : Files) (fault : FaultPlace → Type 0) {s t : ShelfState} {before now : Option (List ℕ)} {result : Result Status Failed} (x y : List ℕ) → all asked.a ≡ Some x → all asked.b ≡ Some y → IsCut result
     → AppendsPrefix before now (difference_lines (differences (merged_in asked x y))) → Asks (asked.a ∷ asked.b ∷ []) s t → TellsRun (AgreeYields asked all fault) HandsNothing s t before now result
 agree_cut asked all fault {s} {t} {before} {now} {result} x y is_a is_b cut prefix asks =
     run_asked (AgreeYields asked all fault) (asked.a ∷ asked.b ∷ [])
     (tells_cut (compared_status asked x y) (says (compared_text asked x y)) (compared asked all fault x y is_a is_b) cut (part_text refl (says (compared_text asked x y)) (prefix_before before now _ _ prefix))) asks
 
-pub agree_fault : (asked : Agreeing) (all : Files) (fault fault' : Type 0) {s t : ShelfState} {before : Option (List ℕ)} {h h' : SinkState} {w w' : List ℕ} {result : Result Status Failed} (x y : List ℕ) → all asked.a ≡ Some x → all asked.b ≡ Some y → (fault → fault')
+pub agree_fault : (asked : Agreeing) (all : Files) (fault fault' : FaultPlace → Type 0) {s t : ShelfState} {before : Option (List ℕ)} {h h' : SinkState} {w w' : List ℕ} {result : Result Status Failed} (x y : List ℕ) → all asked.a ≡ Some x → all asked.b ≡ Some y → ((place : FaultPlace) → fault place → fault' place)
     → IsCutIn asked x y fault before (written h.held w) → EndsWith status.ReadFault h h' w w' result read_fault_line → Asks (asked.a ∷ asked.b ∷ []) s t
     → TellsRun (AgreeYields asked all fault') HandsNothing s t before (written h'.held w') result
 agree_fault asked all fault fault' x y is_a is_b cause (in_a prefix ends lines) last asks =
@@ -131,7 +132,7 @@ lines_end {before = before} {h} {h'} {w} {w'} {result = Err e} limit ended text 
     let lines = last_lines limit ended.counts ended.a ended.b in
     record { ended = agree_status ended.counts.differ ended.a ended.b; yields = says (text ++ lines); outcome = outcome; whole = tt; part = part_text refl (says (text ++ lines)) (prefix_after before (written h.held w) (written h'.held w') text lines start last.written) }
 
-pub agree_told : (asked : Agreeing) (all : Files) (fault : Type 0) {s t : ShelfState} {before : Option (List ℕ)} {h h' : SinkState} {w w' : List ℕ} {result : Result Status Failed} {ended : Ended} (x y : List ℕ) → all asked.a ≡ Some x → all asked.b ≡ Some y
+pub agree_told : (asked : Agreeing) (all : Files) (fault : FaultPlace → Type 0) {s t : ShelfState} {before : Option (List ℕ)} {h h' : SinkState} {w w' : List ℕ} {result : Result Status Failed} {ended : Ended} (x y : List ℕ) → all asked.a ≡ Some x → all asked.b ≡ Some y
     → HasCompared asked x y ended before (written h.held w) → EndsWithLines asked.listener.limit ended h h' w w' result → Asks (asked.a ∷ asked.b ∷ []) s t
     → TellsRun (AgreeYields asked all fault) HandsNothing s t before (written h'.held w') result
 agree_told asked all fault {ended = ended} x y is_a is_b has last asks =
@@ -152,7 +153,7 @@ reads_status found end.Limit b p q = (refl, λ e. cc)
 
 -- ---- a file that could not be opened
 
-among : {names more : List (List ℕ)} {files : Option Files} {before after : ℕ} {result : Result Status Failed} → ((name : List ℕ) → Contains names name → Contains more name) → CountsReading names files before after result → CountsReading more files before after result
+among : {names more : List (List ℕ)} {files : Option Files} {before after : ReadingFaults} {result : Result Status Failed} → ((name : List ℕ) → Contains names name → Contains more name) → CountsReading names files before after result → CountsReading more files before after result
 among within counts = record {
   never_falls = counts.never_falls;
   fault = λ is. elim (counts.fault is) [ inl rose ↦ inl rose | inr one ↦ inr (record { name = one.name; one = within one.name one.one; missing = one.missing }) ];
@@ -168,24 +169,24 @@ among_second a b name (zero, less, is) = (1, omega arith, is)
 among_second a b name (suc n, less, is) = absurd (omega arith)
 
 unopened_run : (asked : Agreeing) (all : Files) {s t : ShelfState} {h h' : SinkState} {w w' : List ℕ} {result : Result Status Failed} (fault : OpenFault) (name : List ℕ) (came : List (List ℕ)) → s.files ≡ Some all → Refuses s t name fault → EndsUnopened fault h h' w w' result
-    → (IsUnopened all (Rose s.reading_faults t.reading_faults) name → AgreeYields asked all (Rose s.reading_faults t.reading_faults) came status.ReadFault (says read_fault_line)) → Asks came s t
-    → TellsRun (AgreeYields asked all (Rose s.reading_faults t.reading_faults)) HandsNothing s t (written h.held w) (written h'.held w') result
+    → (IsUnopened all (FailsAt s.reading_faults t.reading_faults) name → AgreeYields asked all (FailsAt s.reading_faults t.reading_faults) came status.ReadFault (says read_fault_line)) → Asks came s t
+    → TellsRun (AgreeYields asked all (FailsAt s.reading_faults t.reading_faults)) HandsNothing s t (written h.held w) (written h'.held w') result
 unopened_run asked all {s} {t} {h} {h'} {w} {w'} {result} open_fault.Memory name came told refuses ends outcome asks =
     let left = ends.memory refl in
     let report = agree_report asked (all asked.a) (all asked.b) no_halt in
     let yields = report.yields in
-    run_cut (AgreeYields asked all (Rose s.reading_faults t.reading_faults)) report.came report.ended yields (no_halt, tt, makes_none asked (all asked.a) (all asked.b)) (subst IsCut (sym left.0) (inl refl)) (part_none refl yields left.1)
+    run_cut (AgreeYields asked all (FailsAt s.reading_faults t.reading_faults)) report.came report.ended yields (no_halt, tt, makes_none asked (all asked.a) (all asked.b)) (subst IsCut (sym left.0) (inl refl)) (part_none refl yields left.1)
 unopened_run asked all {s} {t} {h} {h'} {w} {w'} open_fault.Missing name came told refuses ends outcome asks =
-    run_asked (AgreeYields asked all (Rose s.reading_faults t.reading_faults)) came
+    run_asked (AgreeYields asked all (FailsAt s.reading_faults t.reading_faults)) came
     (tells_last (yield_telling (written h.held w) (written h'.held w') read_fault_line refl) (outcome (inl (missing_none s.files name all told (refuses.missing refl)))) (ends.other (λ e. cc))) asks
 unopened_run asked all {s} {t} {h} {h'} {w} {w'} open_fault.Failed name came told refuses ends outcome asks =
-    run_asked (AgreeYields asked all (Rose s.reading_faults t.reading_faults)) came
+    run_asked (AgreeYields asked all (FailsAt s.reading_faults t.reading_faults)) came
     (tells_last (yield_telling (written h.held w) (written h'.held w') read_fault_line refl) (outcome (inr (refuses.counted.failed refl))) (ends.other (λ e. cc))) asks
 
 pub agree_unopened : {s t : ShelfState} {h h' : SinkState} {w w' : List ℕ} {result : Result Status Failed} (asked : Agreeing) (fault : OpenFault) → RefusesTwo s t asked.a asked.b fault → EndsUnopened fault h h' w w' result
     → DoesReading (AgreeYields asked) (asked.a ∷ asked.b ∷ []) HandsNothing s t h h' w w' result
 agree_unopened {s} {t} {result = result} asked fault (first only refuses) ends = record {
-  tells = λ all told still. unopened_run asked all fault asked.a (asked.a ∷ []) told refuses ends (without_a asked all _) only.asked;
+  tells = λ all told still. unopened_run asked all fault asked.a (asked.a ∷ []) told refuses ends (without_a asked all (FailsAt s.reading_faults t.reading_faults)) only.asked;
   count = 1;
   within = omega arith;
   all = λ done. absurd (unopened_undone fault result ends done);
@@ -195,7 +196,7 @@ agree_unopened {s} {t} {result = result} asked fault (first only refuses) ends =
   sink = ends.sink;
 }
 agree_unopened {s} {t} {result = result} asked fault (second there only refuses) ends = record {
-  tells = λ all told still. unopened_run asked all fault asked.b (asked.a ∷ asked.b ∷ []) told refuses ends (without_b asked all _ (there all told)) only.asked;
+  tells = λ all told still. unopened_run asked all fault asked.b (asked.a ∷ asked.b ∷ []) told refuses ends (without_b asked all (FailsAt s.reading_faults t.reading_faults) (there all told)) only.asked;
   count = 2;
   within = omega arith;
   all = λ done. refl;
@@ -212,16 +213,19 @@ module _ {s t u v : ShelfState} {c c' : Comparing} {h mid : SinkState} {w m : Li
   both_read : OnlyReads s v (asked.a ∷ asked.b ∷ [])
   both_read = both_closed opened.opened compares.reads.two (subst (λ (k : ℕ). ClosesTwo u v k (slot_of c.b.source)) compares.reads.slot_a (subst (ClosesTwo u v (slot_of c'.a.source)) compares.reads.slot_b closes))
 
-  rose_over : Rose t.reading_faults u.reading_faults → Rose s.reading_faults v.reading_faults
-  rose_over rose = subst (λ (n : ℕ). Rose n v.reading_faults) opened.opened.reading (subst (Rose t.reading_faults) (sym closes.reading) rose)
+  fails_over : (place : FaultPlace) → FailsAt t.reading_faults u.reading_faults place → FailsAt s.reading_faults v.reading_faults place
+  fails_over place fails = subst (λ (faults : ReadingFaults). FailsAt faults v.reading_faults place) opened.opened.reading (subst (λ (faults : ReadingFaults). FailsAt t.reading_faults faults place) (sym closes.reading) fails)
 
-  told_over : (all : Files) → s.files ≡ Some all → IsSome v.files → (at : AreTold asked all t c) × ComparesTo asked at.bytes_a at.bytes_b (Rose t.reading_faults u.reading_faults) (written h.held w) (written mid.held m) compared
+  once_over : HasOneMore t.reading_faults u.reading_faults → HasOneMore s.reading_faults v.reading_faults
+  once_over once = subst (λ (faults : ReadingFaults). HasOneMore faults v.reading_faults) opened.opened.reading (subst (HasOneMore t.reading_faults) (sym closes.reading) once)
+
+  told_over : (all : Files) → s.files ≡ Some all → IsSome v.files → (at : AreTold asked all t c) × ComparesTo asked at.bytes_a at.bytes_b (FailsAt t.reading_faults u.reading_faults) (written h.held w) (written mid.held m) compared
   told_over all told still =
       let at = opened.told all told (shown_before t.files v.files (KeepsFiles-trans t.files u.files v.files compares.reads.two.files closes.files) still) in
       (at, compares.told asked at.bytes_a at.bytes_b at.unread)
 
   does_over : {h' : SinkState} {w' : List ℕ} {result : Result Status Failed}
-      → ((all : Files) → s.files ≡ Some all → IsSome v.files → TellsRun (AgreeYields asked all (Rose s.reading_faults v.reading_faults)) HandsNothing s v (written h.held w) (written h'.held w') result)
+      → ((all : Files) → s.files ≡ Some all → IsSome v.files → TellsRun (AgreeYields asked all (FailsAt s.reading_faults v.reading_faults)) HandsNothing s v (written h.held w) (written h'.held w') result)
       → CountsReading (asked.a ∷ asked.b ∷ []) s.files s.reading_faults v.reading_faults result → IsReadingStatus result → KeepsSink h h' result → DoesReading (AgreeYields asked) (asked.a ∷ asked.b ∷ []) HandsNothing s v h h' w w' result
   does_over tells counts own sink = record { tells = tells; count = 2; within = omega arith; all = λ done. refl; keeps = both_read; counts = counts; own = own; sink = sink }
 
@@ -234,30 +238,29 @@ agree_ends {s} {t} {u} {v} {result = result} {ended} asked opened compares close
     let ends = reads_status ended.counts.differ ended.a ended.b counted.0 counted.1 in
     let same : v.reading_faults ≡ s.reading_faults = closes.reading ∙ counted.2 ∙ opened.opened.reading in
     does_over asked opened compares closes
-    (λ all told still. let so = told_over asked opened compares closes all told still in agree_told asked all _ so.0.bytes_a so.0.bytes_b so.0.is_a so.0.is_b so.1 last (both_read asked opened compares closes).asked)
+    (λ all told still. let so = told_over asked opened compares closes all told still in agree_told asked all (FailsAt s.reading_faults v.reading_faults) so.0.bytes_a so.0.bytes_b so.0.is_a so.0.is_b so.1 last (both_read asked opened compares closes).asked)
     (counts_by status result (both_read asked opened compares closes).reading (inl (ends.1, same)) last.status) (own_as result status ends.0 last.status) (sink_then compares.sink last.sink)
 
 pub agree_stops : {s t u v : ShelfState} {c c' : Comparing} {h mid h' : SinkState} {w m w' : List ℕ} {result : Result Status Failed} (asked : Agreeing) → OpensTwo s t asked (Ok c)
     → Compares t u c c' h mid w m (Ok ended_as.Fault) → ClosesTwo u v (slot_of c'.a.source) (slot_of c'.b.source)
     → EndsWith status.ReadFault mid h' m w' result read_fault_line → DoesReading (AgreeYields asked) (asked.a ∷ asked.b ∷ []) HandsNothing s v h h' w w' result
 agree_stops {s} {t} {u} {v} {result = result} asked opened compares closes last =
-    let rose = rose_over asked opened compares closes in
     does_over asked opened compares closes
-    (λ all told still. let so = told_over asked opened compares closes all told still in agree_fault asked all _ _ so.0.bytes_a so.0.bytes_b so.0.is_a so.0.is_b rose so.1 last (both_read asked opened compares closes).asked)
-    (counts_by status.ReadFault result (both_read asked opened compares closes).reading (inr (refl, rose compares.counted)) last.status) (own_as result status.ReadFault refl last.status) (sink_then compares.sink last.sink)
+    (λ all told still. let so = told_over asked opened compares closes all told still in agree_fault asked all (FailsAt t.reading_faults u.reading_faults) (FailsAt s.reading_faults v.reading_faults) so.0.bytes_a so.0.bytes_b so.0.is_a so.0.is_b (fails_over asked opened compares closes) so.1 last (both_read asked opened compares closes).asked)
+    (counts_by status.ReadFault result (both_read asked opened compares closes).reading (inr (refl, once_over asked opened compares closes compares.counted)) last.status) (own_as result status.ReadFault refl last.status) (sink_then compares.sink last.sink)
 
 pub agree_no_memory : {s t u v : ShelfState} {c c' : Comparing} {h mid : SinkState} {w m : List ℕ} (asked : Agreeing) → OpensTwo s t asked (Ok c)
     → Compares t u c c' h mid w m (Ok ended_as.NoMemory) → ClosesTwo u v (slot_of c'.a.source) (slot_of c'.b.source) → DoesReading (AgreeYields asked) (asked.a ∷ asked.b ∷ []) HandsNothing s v h mid w m (Ok status.Memory)
-agree_no_memory asked opened compares closes =
+agree_no_memory {s} {v = v} asked opened compares closes =
     does_over asked opened compares closes
-    (λ all told still. let so = told_over asked opened compares closes all told still in agree_cut asked all _ so.0.bytes_a so.0.bytes_b so.0.is_a so.0.is_b (inl refl) so.1 (both_read asked opened compares closes).asked)
+    (λ all told still. let so = told_over asked opened compares closes all told still in agree_cut asked all (FailsAt s.reading_faults v.reading_faults) so.0.bytes_a so.0.bytes_b so.0.is_a so.0.is_b (inl refl) so.1 (both_read asked opened compares closes).asked)
     (counts_memory (Ok status.Memory) (both_read asked opened compares closes).reading refl) refl (sink_ok status.Memory compares.sink)
 
 pub agree_failed : {s t u v : ShelfState} {c c' : Comparing} {h mid : SinkState} {w m : List ℕ} {e : Failed} (e' : Failed) (asked : Agreeing) → OpensTwo s t asked (Ok c)
     → Compares t u c c' h mid w m (Err e) → ClosesTwo u v (slot_of c'.a.source) (slot_of c'.b.source) → DoesReading (AgreeYields asked) (asked.a ∷ asked.b ∷ []) HandsNothing s v h mid w m (Err e')
-agree_failed e' asked opened compares closes =
+agree_failed {s} {v = v} e' asked opened compares closes =
     does_over asked opened compares closes
-    (λ all told still. let so = told_over asked opened compares closes all told still in agree_cut asked all _ so.0.bytes_a so.0.bytes_b so.0.is_a so.0.is_b tt so.1 (both_read asked opened compares closes).asked)
+    (λ all told still. let so = told_over asked opened compares closes all told still in agree_cut asked all (FailsAt s.reading_faults v.reading_faults) so.0.bytes_a so.0.bytes_b so.0.is_a so.0.is_b tt so.1 (both_read asked opened compares closes).asked)
     (counts_failed e' (both_read asked opened compares closes).reading) tt (sink_err compares.sink)
 
 -- ---- two captures of one talker

@@ -11,6 +11,7 @@ use Rattle.listener_pair.specs.declared.difference.Which.{Which}
 use Rattle.listener_pair.specs.declared.difference.Which.TheVariants.{A, B}
 use Rattle.capture_io.specs.declared.end.End.{End}
 use Rattle.listener.specs.Listening.{ListenState, is_closed}
+use Rattle.avtp_base.specs.declared.failed.FaultPlace.{FaultPlace}
 use Rattle.avtp_base.specs.States.{ShelfState, SinkState}
 use Rattle.capture_io.specs.Source.{slot_of, HasGiven, Sourcing, remains_of, EndsAfter, HasGivenOf, to_do}
 use Rattle.capture_io.specs.Ends.{CountsFault, EndsAt, end_of}
@@ -28,11 +29,11 @@ use Rattle.listener_pair.specs.Merged.{Sided, merged, known as is_known}
 use Rattle.avtp_text.specs.Written.{AppendsPrefix, written}
 use Rattle.avtp_text.proofs.Samples.{one_shown}
 use Rattle.avtp_base.specs.declared.failed.Failed.{Failed}
-use Rattle.avtp_base.specs.Faults.{Rose}
+use Rattle.avtp_base.specs.Faults.{FailsAt, HasOneMore, ReadingFaults}
 use Rattle.capture_io.proofs.Ending.{ends_weaker}
 use Rattle.listener.specs.declared.plan.ListenPlan.{ListenPlan}
 use Rattle.capture_io.specs.declared.end.End.TheVariants as end
-use Rattle.run_report.proofs.Leaving.{ended_so, quiet_next, some_same}
+use Rattle.run_report.proofs.Leaving.{ended_so, quiet_end, quiet_next, some_same}
 use Rattle.run_report.specs.Listener.{plan_of}
 use Rattle.agree_command.specs.Agree.{difference_line, difference_lines, merged_in, due_in, presented_in}
 use Rattle.agree_command.specs.state.Comparing.{Takes, Shuts, is_fault, IsSideAt, IsAmidTwo, StepsTo, SideRead, StandsOn, IsComparedTo, PrintsDifferences, EndsCompared, HasCompared, IsCutIn, ReadsTwo, ReadsBoth, left_by, left_of, side_of, ReadsOn}
@@ -104,13 +105,6 @@ amid_printed {a = a} {b} {old} {new} keeps amid = record {
 
 -- ---- a step
 
--- if the reading did not end with a read fault, no read fault was counted
-quiet_end : (how : End) (before after : ℕ) → how ≢ end.ReadFault → CountsFault None (Some how) before after → after ≡ before
-quiet_end end.Whole before after other counts = counts
-quiet_end (end.Refused r) before after other counts = counts
-quiet_end end.ReadFault before after other counts = absurd (other refl)
-quiet_end end.Limit before after other counts = counts
-
 -- what a step does to the side that is read, to the listener of the other side, and to the shelf
 record IsStepped (which : Which) (s t : ShelfState) (side side' : Side) (pair pair' : PairState) : Type 0 where
   pub reads : ReadsSlot s t (slot_of side.source) (slot_of side'.source)
@@ -174,7 +168,7 @@ other_left s t k i source reads apart = ap (λ o. left_at o) (reads.others (slot
 
 -- Unless a read fault ended the reading, the bytes and the limit decide how the reading ended. If no read fault ended
 -- the reading, `records` are all records within the limit.
-whole_end : (how : End) (limit : ℕ) (bytes : List ℕ) (fault : Type 0) (records : List Record) → how ≢ end.ReadFault → EndsAfter limit bytes fault how records → (how ≡ end_of limit bytes) × (records ≡ records_in (take limit bytes))
+whole_end : (how : End) (limit : ℕ) (bytes : List ℕ) (fault : FaultPlace → Type 0) (records : List Record) → how ≢ end.ReadFault → EndsAfter limit bytes fault how records → (how ≡ end_of limit bytes) × (records ≡ records_in (take limit bytes))
 whole_end how limit bytes fault records other after = at how other after.prefix after.ends after.whole where
   at : (h : End) → h ≢ end.ReadFault → (prefix : List ℕ) → EndsAt limit (Some bytes) fault h prefix → records_in prefix ≡ records → (h ≡ end_of limit bytes) × (records ≡ records_in (take limit bytes))
   at end.Whole other prefix ends whole = (ends.0, sym whole ∙ ap records_in ends.1)
@@ -436,14 +430,14 @@ module _ {s t : ShelfState} {first c : Comparing} (amid : IsAmidTwo s t first c)
       (subst (λ (l : List Record). StandsFor l (was.records_b ++ gave.more) was.given c'.pair) (sym (append-nil was.records_a)) gave.stands) on.here.kept
 
   -- if the reading of a capture ends with a read fault, both files are still open, and the count of reading faults rose
-  pub fault_on : {u : ShelfState} {c' : Comparing} {h h' : SinkState} {w w' : List ℕ} (which : Which) → is_closed (listener_of which c.pair) ≡ false → ReadsOn which t u c c' h h' w w' (Ok step.Fault) → ReadsBoth s u first c' × Rose s.reading_faults u.reading_faults
+  pub fault_on : {u : ShelfState} {c' : Comparing} {h h' : SinkState} {w w' : List ℕ} (which : Which) → is_closed (listener_of which c.pair) ≡ false → ReadsOn which t u c c' h h' w w' (Ok step.Fault) → ReadsBoth s u first c' × HasOneMore s.reading_faults u.reading_faults
   fault_on {u} which listens on =
       let gives = on.here.steps.1 in
       let going = (at_side which).going (unended_on which listens) in
-      (reads_on which gives.reads on.other, subst (λ (n : ℕ). Rose n u.reading_faults) amid.quiet (ended_so (side_of which c).source.ended end.ReadFault t.reading_faults u.reading_faults going.0 gives.counted))
+      (reads_on which gives.reads on.other, subst (λ (faults : ReadingFaults). HasOneMore faults u.reading_faults) amid.quiet (ended_so (side_of which c).source.ended end.ReadFault t.reading_faults u.reading_faults going.0 gives.counted))
 
   pub told_fault : {u : ShelfState} {c' : Comparing} {h h' : SinkState} {w w' : List ℕ} {asked : Agreeing} {x y : List ℕ} {before : Option (List ℕ)} (which : Which) → wanted_by c.pair ≡ Some which → is_closed (listener_of which c.pair) ≡ false → EndsAreClosed c.pair → HavePlan (plan_of asked.listener) c.pair → ReadsOn which t u c c' h h' w w' (Ok step.Fault)
-      → IsAllTo asked x y t c before (written h.held w) → IsCutIn asked x y (Rose s.reading_faults u.reading_faults) before (written h'.held w')
+      → IsAllTo asked x y t c before (written h.held w) → IsCutIn asked x y (FailsAt s.reading_faults u.reading_faults) before (written h'.held w')
   told_fault {u} {asked = asked} {x} {y} A wanted listens ends plans on told =
       let to = told.to in
       let limit = asked.listener.limit in
@@ -451,7 +445,7 @@ module _ {s t : ShelfState} {first c : Comparing} (amid : IsAmidTwo s t first c)
       let rest = rest_of limit y t c.b.source c.b.end to.records_b c.pair.b amid.b.closed to.b in
       let known : known_by c.pair to.records_a to.records_b ≡ is_known false true (merged (due_in asked after.prefix) (presented_in asked y)) =
       fault-a (plan_of asked.listener) to.records_a to.records_b rest.more to.given c.pair to.stands plans ends wanted listens rest.none ∙ rw (after.whole, rest.all) refl in
-      in_a after.prefix (ends_weaker limit (Some x) _ (Rose s.reading_faults u.reading_faults) end.ReadFault after.prefix (λ rose. subst (λ (n : ℕ). Rose n u.reading_faults) amid.quiet rose) after.ends) (all_printed _ told known on.here.kept)
+      in_a after.prefix (ends_weaker limit (Some x) _ (FailsAt s.reading_faults u.reading_faults) end.ReadFault after.prefix (λ place. subst (λ (faults : ReadingFaults). FailsAt faults u.reading_faults place) amid.quiet) after.ends) (all_printed _ told known on.here.kept)
   told_fault {u} {asked = asked} {x} {y} B wanted listens ends plans on told =
       let to = told.to in
       let limit = asked.listener.limit in
@@ -459,7 +453,7 @@ module _ {s t : ShelfState} {first c : Comparing} (amid : IsAmidTwo s t first c)
       let rest = rest_of limit x t c.a.source c.a.end to.records_a c.pair.a amid.a.closed to.a in
       let known : known_by c.pair to.records_a to.records_b ≡ is_known true false (merged (presented_in asked x) (due_in asked after.prefix)) =
       fault-b (plan_of asked.listener) to.records_a to.records_b rest.more to.given c.pair to.stands plans ends wanted listens rest.none ∙ rw (after.whole, rest.all) refl in
-      in_b after.prefix (ends_weaker limit (Some y) _ (Rose s.reading_faults u.reading_faults) end.ReadFault after.prefix (λ rose. subst (λ (n : ℕ). Rose n u.reading_faults) amid.quiet rose) after.ends) (all_printed _ told known on.here.kept)
+      in_b after.prefix (ends_weaker limit (Some y) _ (FailsAt s.reading_faults u.reading_faults) end.ReadFault after.prefix (λ place. subst (λ (faults : ReadingFaults). FailsAt faults u.reading_faults place) amid.quiet) after.ends) (all_printed _ told known on.here.kept)
 
   pub memory_on : {u : ShelfState} {c' : Comparing} {h h' : SinkState} {w w' : List ℕ} (which : Which) → is_closed (listener_of which c.pair) ≡ false → ReadsOn which t u c c' h h' w w' (Ok step.NoMemory) → ReadsBoth s u first c' × (u.reading_faults ≡ s.reading_faults)
   memory_on {u} which listens on =

@@ -2,17 +2,19 @@
 use Rattle.std.proofs.Common.{ℕ, refl, arith, ◌≡◌, sym, subst, ◌∙◌, Option, Some, None, List, [], ◌∷◌, ◌++◌, append_assoc, inl, inr, Err}
 use Rattle.std.specs.Prelude.{IsSome, ◌≢◌, IsErrOf, option_and_then}
 use Rattle.std.proofs.lemmas.Bool.Decides.{eqb_tells}
+use Rattle.avtp_base.specs.declared.failed.FaultPlace.TheVariants as fault_place
 use Rattle.avtp_base.specs.States.{ShelfState, WasAsked}
 use Rattle.avtp_base.proofs.Files.{KeepsFiles-refl, KeepsFiles-trans, KeepsOthers-closed}
 use Rattle.capture_io.specs.Reads.{ReadsSlot, OpensSlot, OnlyReads}
 use Rattle.avtp_files.specs.ShelfCalls.{ClosesSlot}
 use Rattle.avtp_base.specs.Files.{KeepsSlots, IsMissing, KeepsFiles, Open}
 use Rattle.avtp_base.specs.declared.failed.OpenFault.{OpenFault}
-use Rattle.avtp_base.specs.Faults.{IsOpenCounted, Rose}
+use Rattle.avtp_base.specs.Faults.{FailsAt, IsOpeningCounted, ReadingFaults}
 use Rattle.capture_io.specs.Source.{Sourcing, HasGiven, HasGivenOf, slot_of}
 use Rattle.pcap_frames.specs.Capture.{Record}
 use Rattle.avtp_base.specs.declared.failed.OpenFault.TheVariants as open_fault
 use Rattle.run_report.proofs.Files.{missing_before}
+use Rattle.run_report.proofs.Leaving.{same_count}
 use Rattle.agree_command.specs.state.Comparing.{AreOpen, ReadsTwo, OpensSlots, ClosesTwo, Refuses}
 
 pub two_begun : (s : ShelfState) (k j : ℕ) → AreOpen s k j → ReadsTwo s s k j
@@ -87,7 +89,7 @@ module _ {s t u v : ShelfState} {a b : List ℕ} {k j : ℕ} (opens : OpensSlots
   both_closed = record {
     files = KeepsFiles-trans s.files u.files v.files (KeepsFiles-trans s.files t.files u.files opens.files reads.files) closes.files;
     slots = slots_same;
-    reading = omega (arith, opens.reading, reads.reading, closes.reading);
+    reading = omega (arith, same_count opens.reading, reads.reading, same_count closes.reading);
     writing = closes.writing ∙ reads.writing ∙ opens.writing;
     asked = λ earlier was. closes.asked (earlier ++ a ∷ b ∷ []) (reads.asked (earlier ++ a ∷ b ∷ []) (opens.asked earlier was));
   }
@@ -98,7 +100,7 @@ pub second_refused : {s t u v : ShelfState} {a b : List ℕ} {k : ℕ} → Opens
 second_refused {s} {t} {u} {v} {a} {b} {k} opens only closes = record {
   files = KeepsFiles-trans s.files u.files v.files (KeepsFiles-trans s.files t.files u.files opens.files only.files) closes.files;
   slots = KeepsOthers-closed s.slots u.slots v.slots k opens.free (λ j differs. only.slots j ∙ opens.others j differs) closes.others closes.ended;
-  reading = omega (arith, opens.reading, only.reading, closes.reading);
+  reading = omega (arith, opens.reading, only.reading, same_count closes.reading);
   writing = closes.writing ∙ only.writing ∙ opens.writing;
   asked = λ earlier was. closes.asked (earlier ++ a ∷ b ∷ []) (subst (WasAsked u.asked) (append_assoc earlier (a ∷ []) (b ∷ [])) (only.asked (earlier ++ a ∷ []) (opens.asked earlier was)));
 }
@@ -108,22 +110,22 @@ second_refused {s} {t} {u} {v} {a} {b} {k} opens only closes = record {
 -- Let other calls precede and follow a failed attempt to open a file. If none of the other calls counts a read fault,
 -- and no call before the attempt changes a file, `Refuses` still holds.
 pub refused_around : {name : List ℕ} {fault : OpenFault} (s t u v : ShelfState) → KeepsFiles s.files t.files → t.reading_faults ≡ s.reading_faults → v.reading_faults ≡ u.reading_faults
-    → (IsErrOf {T = Sourcing} (Err fault) open_fault.Missing → IsMissing t.files name) → IsOpenCounted {T = Sourcing} t.reading_faults u.reading_faults (Err fault) → Refuses s v name fault
+    → (IsErrOf {T = Sourcing} (Err fault) open_fault.Missing → IsMissing t.files name) → IsOpeningCounted {T = Sourcing} t.reading_faults u.reading_faults (Err fault) → Refuses s v name fault
 refused_around {name} {fault} s t u v keeps first last missing counted = record {
   missing = λ is. missing_before s.files t.files name keeps (missing is);
   counted = record {
-    never_falls = omega (arith, first, last, counted.never_falls);
+    never_falls = omega (arith, same_count first, same_count last, counted.never_falls);
     ok = tt;
     missing = λ is. last ∙ counted.missing is ∙ first;
     memory = λ is. last ∙ counted.memory is ∙ first;
-    failed = λ is. subst (λ (n : ℕ). Rose n v.reading_faults) first (subst (Rose t.reading_faults) (sym last) (counted.failed is));
+    failed = λ is. subst (λ (faults : ReadingFaults). FailsAt faults v.reading_faults fault_place.Opening) first (subst (λ (faults : ReadingFaults). FailsAt t.reading_faults faults fault_place.Opening) (sym last) (counted.failed is));
   };
 }
 
 pub refused_memory : {name : List ℕ} (s v : ShelfState) → v.reading_faults ≡ s.reading_faults → Refuses s v name open_fault.Memory
 refused_memory s v same = record {
   missing = λ is. absurd cc;
-  counted = record { never_falls = omega (arith, same); ok = tt; missing = λ is. absurd cc; memory = λ is. same; failed = λ is. absurd cc };
+  counted = record { never_falls = omega (arith, same_count same); ok = tt; missing = λ is. absurd cc; memory = λ is. same; failed = λ is. absurd cc };
 }
 
 pub given_kept : {limit : ℕ} {bytes : List ℕ} {source : Sourcing} {records : List Record} (s t : ShelfState) → t.slots (slot_of source) ≡ s.slots (slot_of source) → HasGivenOf limit bytes s source records → HasGivenOf limit bytes t source records

@@ -16,6 +16,7 @@ use Rattle.listener_pair.specs.Merged.{Sided, merged, known}
 use Rattle.capture_io.specs.Ends.{end_of}
 use Rattle.listener_pair.specs.Differences.{counts_of, differences}
 use Rattle.avtp_text.specs.Notices.{read_fault_line}
+use Rattle.avtp_base.specs.declared.failed.FaultPlace.{FaultPlace}
 use Rattle.avtp_base.specs.Files.{Files}
 use Rattle.packet_journal.specs.Packets.{PacketJournal}
 use Rattle.listener_pair.specs.Pairs.{pairs}
@@ -137,6 +138,6 @@ pub record IsAgreeing (asked : Agreeing) : Type 0 where
   pub plan : IsPlan (schedule_plan (plan_of asked.listener))
 
 -- what a run of `agree` over these files did, under one of the read faults that are possible
-abbrev pub AgreeYields : Agreeing → Files → Type 0 → List (List ℕ) → Status → Yield → Type 0
+abbrev pub AgreeYields : Agreeing → Files → (FaultPlace → Type 0) → List (List ℕ) → Status → Yield → Type 0
 AgreeYields asked files fault came ended yields =
     Halts (CanHalt asked.listener.limit (asked.a ∷ asked.b ∷ []) files fault) (agree_report asked (files asked.a) (files asked.b)) came ended yields None

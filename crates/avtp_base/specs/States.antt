@@ -1,5 +1,6 @@
 -- The states of shelves and sinks, as contracts see them.
 use Rattle.std.specs.Prelude.{◌≡◌, ℕ, ⊤, Bool, true, false, List, ◌++◌, Option, None, Some}
+use Rattle.avtp_base.specs.Faults.{ReadingFaults}
 use Rattle.avtp_base.specs.Files.{Files, Slots}
 
 -- a shelf's account of the names that it was asked for: the names that it kept, and whether it kept all names
@@ -7,14 +8,14 @@ pub record Account : Type 0 where
   pub kept : List (List ℕ)
   pub all : Bool
 
--- what contracts see of a shelf: its files, its open files, its counts of faults, and the names that it was asked for
+-- what contracts see of a shelf: its files, its open files, its faults, and the names that it was asked for
 pub record ShelfState : Type 0 where
   -- the files, if the shelf shows them; a shelf in memory shows them, a shelf of real files does not
   pub files : Option Files
   -- the open file of each live slot
   pub slots : Slots
-  -- the numbers of reading faults and of writing faults so far
-  pub reading_faults : ℕ
+  -- the reading faults so far, and the number of writing faults so far
+  pub reading_faults : ReadingFaults
   pub writing_faults : ℕ
   -- the names that the shelf was asked for so far, if it keeps an account of them
   pub asked : Option Account

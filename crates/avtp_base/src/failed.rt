@@ -1,4 +1,4 @@
-//! Failed calls to objects outside the program, and missing memory.
+//! Failed calls to objects outside the program, where they failed, and missing memory.
 
 use std::alloc::{AllocError, AllocFailed};
 use thiserror::Error;
@@ -25,6 +25,15 @@ pub enum OpenFault {
     /// Memory ran out.
     #[error("out of memory")]
     Memory,
+}
+
+/// Where a reading fault occurred.
+#[derive(Clone, Copy, Debug, PartialEq, Eq)]
+pub enum FaultPlace {
+    /// At the opening of a file.
+    Opening,
+    /// At a read. The number is the number of bytes of the file that were still to be read.
+    Reading(usize),
 }
 
 impl From<AllocError> for NoMemory {

@@ -12,7 +12,7 @@ mod spelled;
 
 pub use buffer::Buffer;
 pub use bytes::Bytes;
-pub use failed::{Failed, NoMemory, OpenFault};
+pub use failed::{Failed, FaultPlace, NoMemory, OpenFault};
 pub use field::Field;
 pub use refusal::{Refusal, Room};
 pub use spelled::Spelled;

@@ -6,7 +6,7 @@ use Rattle.avtp_base.specs.declared.failed.Failed.{Failed}
 use Rattle.avtp_base.specs.declared.failed.OpenFault.{OpenFault}
 use Rattle.avtp_base.specs.declared.failed.OpenFault.TheVariants as open_fault
 use Rattle.avtp_files.specs.declared.shelf.Slot.{Slot}
-use Rattle.avtp_base.specs.Faults.{IsCounted, IsOpenCounted}
+use Rattle.avtp_base.specs.Faults.{IsCounted, IsOpenCounted, IsOpeningCounted, IsReadCounted}
 use Rattle.avtp_base.specs.Files.{Slots, file_of, left_in, name_in, IsMissing, KeepsFiles, KeepsOthers, KeepsSlots, KeepsOtherFiles, PutsFile, IsOpened, IsMade, KeepsOthersFiles, AppendsTo}
 use Rattle.avtp_base.specs.States.{Asks, AsksNothing, ShelfState}
 
@@ -16,8 +16,8 @@ IsMadeIn slots k = option_map (λ o. o.made) (slots k) ≡ Some true
 
 -- If the result is `Ok`, the file with this name was opened for reading in a slot that was free, and every other slot
 -- is unchanged. If the result is `Err`, every slot is unchanged. `Missing` means that the shelf shows its files and
--- none has the name. If the result is `Failed`, a reading fault was counted. All files are unchanged, and the shelf was
--- asked for exactly this name.
+-- none has the name. If the result is `Failed`, a reading fault was counted, at the opening. All files are unchanged,
+-- and the shelf was asked for exactly this name.
 pub record OpensInSlot (before after : ShelfState) (name : List ℕ) (result : Result Slot OpenFault) : Type 0 where
   pub opened : IfOk result (λ slot. IsOpened before.files (after.slots slot.0) name)
   pub fresh : IfOk result (λ slot. before.slots slot.0 ≡ None)
@@ -25,7 +25,7 @@ pub record OpensInSlot (before after : ShelfState) (name : List ℕ) (result : R
   pub refused : OnErr result (KeepsSlots before.slots after.slots)
   pub missing : IsErrOf result open_fault.Missing → IsMissing before.files name
   pub files : KeepsFiles before.files after.files
-  pub reading : IsOpenCounted before.reading_faults after.reading_faults result
+  pub reading : IsOpeningCounted before.reading_faults after.reading_faults result
   pub writing : after.writing_faults ≡ before.writing_faults
   pub asked : Asks (name ∷ []) before after
 
@@ -46,14 +46,15 @@ pub record MakesInSlot (before after : ShelfState) (name : List ℕ) (result : R
   pub asked : Asks (name ∷ []) before after
 
 -- If the result is `Ok(n)`, the next n unread bytes of slot k were moved to the front of the buffer. If the result is
--- `Err`, no byte was moved, and a reading fault was counted. The slot keeps its file, and nothing else changed.
+-- `Err`, no byte was moved, and a reading fault was counted, at these unread bytes. The slot keeps its file, and nothing
+-- else changed.
 pub record ReadsBytes (before after : ShelfState) (k : ℕ) (result : Result ℕ Failed) (buffer : List ℕ) : Type 0 where
   pub within : IfOk result (λ n. n ≤ length buffer)
   pub moved : ReadConsumes (left_in before.slots k) (left_in after.slots k) result buffer
   pub same : option_map file_of (after.slots k) ≡ option_map file_of (before.slots k)
   pub others : KeepsOthers before.slots after.slots k
   pub files : KeepsFiles before.files after.files
-  pub reading : IsCounted before.reading_faults after.reading_faults result
+  pub reading : IsReadCounted before.reading_faults after.reading_faults (left_in before.slots k) result
   pub writing : after.writing_faults ≡ before.writing_faults
   pub asked : AsksNothing before after
 

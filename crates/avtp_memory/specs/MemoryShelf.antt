@@ -1,6 +1,8 @@
 -- What contracts see of a shelf in memory.
-use Rattle.std.specs.Prelude.{◌≡◌, ◌↔◌, ◌^◌, ◌-◌, ℕ, List, [], None, Contains, Result, IfOk, IfSome, IsErr, IsErrOf, length, min}
+use Rattle.std.specs.Prelude.{◌≡◌, ◌↔◌, ◌^◌, ◌-◌, ℕ, List, [], None, Contains, Result, IfOk, IfSome, IsErr, IsErrOf, Some, length, min}
+use Rattle.avtp_base.specs.Faults.{ReadingFaults}
 use Rattle.avtp_base.specs.declared.failed.Failed.{Failed}
+use Rattle.avtp_base.specs.declared.failed.FaultPlace.TheVariants as fault_place
 use Rattle.avtp_base.specs.declared.failed.OpenFault.{OpenFault}
 use Rattle.avtp_base.specs.declared.failed.OpenFault.TheVariants as open_fault
 use Rattle.avtp_files.specs.declared.shelf.Slot.{Slot}
@@ -35,9 +37,9 @@ failing_calls shelf = shelf.calls.fails.items
 abbrev pub most : MemoryShelf → ℕ
 most shelf = shelf.most
 
--- the count of reading faults so far
-abbrev pub reading_count : MemoryShelf → ℕ
-reading_count shelf = shelf.reading_faults
+-- the reading faults so far; once a reading fault was counted, the place of the last one is shown
+abbrev pub reading_of : MemoryShelf → ReadingFaults
+reading_of shelf = record { count = shelf.reading_faults; last = shelf.last_fault }
 
 -- the count of writing faults so far
 abbrev pub writing_count : MemoryShelf → ℕ
@@ -63,10 +65,12 @@ pub record OpensByNumber (old new : MemoryShelf) (result : Result Slot OpenFault
 
 -- A read of slot k into a buffer of `room` bytes. The read failed if and only if its number is one of `failing_calls`.
 -- If the read did not fail, the number of moved bytes is the least of three numbers: the number of bytes that remained
--- to be read, `room`, and the greatest number of bytes that a call moves. The call was counted.
+-- to be read, `room`, and the greatest number of bytes that a call moves. If the read failed, the place of the fault is
+-- shown. The call was counted.
 pub record ReadsByNumber (old new : MemoryShelf) (k room : ℕ) (result : Result ℕ Failed) : Type 0 where
   pub whole : IfOk result (λ n. IfSome (left_in (slots_of old) k) (λ left. n ≡ min (length left) (min room (most old))))
   pub failed : IsErr result ↔ IsToFail old
+  pub place : IsErr result → IfSome (left_in (slots_of old) k) (λ left. (reading_of new).last ≡ Some (fault_place.Reading (length left)))
   pub call : CountsCall old new
 
 -- A write of `piece`. If the number of the write is one of `failing_calls`, the write failed. If the result is `Ok`,
@@ -93,7 +97,7 @@ pub record IsNew (shelf : MemoryShelf) (named : Files) (failing : List ℕ) : Ty
   pub fails : failing_calls shelf ≡ failing
   pub calls : calls shelf ≡ 0
   pub most : most shelf ≡ 2 ^ 64 - 1
-  pub reading : reading_count shelf ≡ 0
+  pub reading : reading_of shelf ≡ record { count = 0; last = None }
   pub writing : writing_count shelf ≡ 0
 
 -- A call of the new shelf moves at most n bytes. Everything else is as in the old shelf.
@@ -104,5 +108,5 @@ pub record SetsMost (old new : MemoryShelf) (n : ℕ) : Type 0 where
   pub fails : failing_calls new ≡ failing_calls old
   pub calls : calls new ≡ calls old
   pub most : most new ≡ n
-  pub reading : reading_count new ≡ reading_count old
+  pub reading : reading_of new ≡ reading_of old
   pub writing : writing_count new ≡ writing_count old

@@ -4,7 +4,7 @@ ghost use Rattle.std.specs.Prelude.{◌≤◌};
 ghost use Rattle.avtp_memory.specs.state.OpenFile.{AreNamed, HaveRoom};
 
 use crate::named_files::NamedFiles;
-use crate::open_file::{OpenFile, advance, copy_from};
+use crate::open_file::{OpenFile, advance, copy_from, rest_of};
 use avtp_base::{NoMemory, OpenFault};
 use avtp_files::Slot;
 use avtp_files::slots::Slots;
@@ -22,7 +22,8 @@ pub struct MemoryFiles {
 }
 
 impl MemoryFiles {
-    ghost use Rattle.std.specs.Prelude.{◌≡◌, ◌<◌, true, Some, length, option_copied, option_map, IsSome};
+    ghost use Rattle.std.specs.Prelude.{◌≡◌, ◌<◌, true, Some, length, option_copied, option_map, IfSome, IsSome};
+    ghost use Rattle.avtp_base.specs.Files.{left_in};
     ghost use Rattle.avtp_memory.specs.MemoryFiles.{files_in, slots_in};
     ghost use Rattle.avtp_memory.specs.NamedFiles.{bytes_under};
     ghost use Rattle.avtp_memory.specs.state.MemoryFiles.{AppendsPiece, FreesSlot, HoldsFiles, KeepsFront, MakesFile, OpensFile, ReadsFile};
@@ -74,6 +75,17 @@ impl MemoryFiles {
         self.files.empty(self.alloc, name, self.room)?;
         self.live.set(slot, Some(file));
         Ok(slot)
+    }
+
+    /// How many bytes of the file are still to be read.
+    pub fn left(&self, slot: Slot) -> usize
+        requires { IsSome (slots_in self.now slot.0) }
+        ensures { IfSome (left_in (slots_in self.now) slot.0) (λ left. result ≡ length left) }
+    {
+        let Some(file) = self.live.get(slot) else {
+            unreachable!()
+        };
+        rest_of(self.files.bytes_of(file.name.as_str()), file.place).len()
     }
 
     /// Moves the next unread bytes of the file to the buffer, and returns how many bytes it moved. The number of moved

@@ -5,7 +5,7 @@ ghost use Rattle.std.specs.Prelude.{◌<◌};
 use crate::asked_names::AskedNames;
 use crate::calls::Calls;
 use crate::memory_files::MemoryFiles;
-use avtp_base::{Failed, NoMemory, OpenFault};
+use avtp_base::{Failed, FaultPlace, NoMemory, OpenFault};
 use avtp_files::{Shelf, Slot};
 use std::alloc::Global;
 
@@ -18,6 +18,8 @@ pub struct MemoryShelf {
     calls: Calls,
     most: usize,
     reading_faults: u64,
+    /// Where the last reading fault occurred.
+    last_fault: Option<FaultPlace>,
     writing_faults: u64,
     ghost some: { 0 < most },
 }
@@ -38,6 +40,7 @@ impl MemoryShelf {
             calls: Calls::over(fails),
             most: usize::MAX,
             reading_faults: 0,
+            last_fault: None,
             writing_faults: 0,
         }
     }
@@ -53,6 +56,7 @@ impl MemoryShelf {
             calls,
             most: _,
             reading_faults,
+            last_fault,
             writing_faults,
         } = self;
         MemoryShelf {
@@ -61,6 +65,7 @@ impl MemoryShelf {
             calls,
             most: n,
             reading_faults,
+            last_fault,
             writing_faults,
         }
     }
@@ -106,6 +111,7 @@ impl Shelf for MemoryShelf {
         self.asked.note(name);
         if self.calls.next_fails() {
             self.reading_faults = self.reading_faults.saturating_add(1);
+            self.last_fault = Some(FaultPlace::Opening);
             return Err(OpenFault::Failed);
         }
         self.held.open(name)
@@ -128,7 +134,9 @@ impl Shelf for MemoryShelf {
     /// least of three: the number of unread bytes, the length of the buffer, and the limit of a call.
     fn read(&mut self, slot: Slot, buf: &mut [u8]) -> Result<usize, Failed> {
         if self.calls.next_fails() {
+            let left = self.held.left(slot);
             self.reading_faults = self.reading_faults.saturating_add(1);
+            self.last_fault = Some(FaultPlace::Reading(left));
             return Err(Failed);
         }
         Ok(self.held.read(slot, self.most, buf))

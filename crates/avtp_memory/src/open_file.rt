@@ -60,8 +60,8 @@ pub fn copy_from(bytes: &[u8], place: usize, most: usize, buf: &mut [u8]) -> usi
     moved
 }
 
-// The bytes from index `place` on, or no bytes if `place` is past the end.
-fn rest_of(bytes: &[u8], place: usize) -> &[u8]
+/// The bytes from index `place` on, or no bytes if `place` is past the end.
+pub fn rest_of(bytes: &[u8], place: usize) -> &[u8]
     ensures { result.now ≡ drop place bytes.now }
 {
     if place < bytes.len() {

@@ -2,7 +2,8 @@
 use Rattle.std.proofs.Common.{ℕ, arith, ◌≡◌, ◌≢◌, List, Option, Result, Ok, sym, subst, Err, ◌∙◌, ap, true, false}
 use Rattle.std.specs.Prelude.{IfOk}
 use Rattle.std.proofs.lemmas.List.{append-nil}
-use Rattle.avtp_base.specs.Faults.{IsQuiet, Rose}
+use Rattle.avtp_base.specs.declared.failed.FaultPlace.{FaultPlace}
+use Rattle.avtp_base.specs.Faults.{FailsAt, IsQuiet, ReadingFaults}
 use Rattle.avtp_base.specs.declared.failed.Failed.{Failed}
 use Rattle.avtp_base.specs.States.{Asks, ShelfState, SinkState, WasAsked}
 use Rattle.sample_schedule.specs.declared.shown.Shown.{Shown}
@@ -21,8 +22,8 @@ use Rattle.avtp_tool.specs.Run.{is_listening}
 
 -- ---- what was told
 
-pub quiet_not : (before after : ℕ) → IsQuiet before after → Rose before after → ⊥
-quiet_not before after quiet rose = omega (arith, quiet, rose)
+pub quiet_not : (before after : ReadingFaults) → IsQuiet before.count after.count → (place : FaultPlace) → FailsAt before after place → ⊥
+quiet_not before after quiet place fails = omega (arith, quiet, fails.once)
 
 pub told_whole : {Outcome : List (List ℕ) → Status → Yield → Type 0} {handed : List Shown → Type 0} {a b : ShelfState} {before now : Option (List ℕ)} {ended : Result Status Failed} (result : Status) → ended ≡ Ok result → result ≢ status.Memory → result ≢ status.WriteFault
     → TellsRun Outcome handed a b before now ended → (came : List (List ℕ)) × (yields : Yield) × Outcome came result yields × Gives handed before now yields × Asks came a b

@@ -4,6 +4,7 @@ use Rattle.std.proofs.lemmas.List.{append-nil}
 use Rattle.std.specs.Prelude.{IfOk, is_err, IsErr, nat_lt}
 use Rattle.std.proofs.lemmas.Bool.{false_from_ne_true, lt-ltb, le-ltb}
 use Rattle.sample_schedule.specs.declared.shown.Shown.{Shown}
+use Rattle.avtp_base.specs.declared.failed.FaultPlace.{FaultPlace}
 use Rattle.avtp_base.specs.declared.failed.Failed.{Failed}
 use Rattle.avtp_base.specs.Files.{Files}
 use Rattle.avtp_base.specs.States.{Asks, ShelfState, SinkState}
@@ -11,7 +12,7 @@ use Rattle.avtp_words.specs.Grammar.{Listening, listen}
 use Rattle.avtp_text.specs.Notices.{device_fault_line}
 use Rattle.avtp_base.specs.Told.{Appends}
 use Rattle.avtp_text.specs.Written.{written}
-use Rattle.avtp_base.specs.Faults.{Rose}
+use Rattle.avtp_base.specs.Faults.{FailsAt}
 use Rattle.run_report.specs.Yield.{HandsNothing, says, with_more, Gives, GivesPart, Yield}
 use Rattle.run_report.proofs.Yields.{Joins, more_none, part_before, gives_then, part_none, part_then, part_whole}
 use Rattle.run_report.specs.declared.status.Status.{Status}
@@ -26,7 +27,7 @@ use Rattle.listen_command.specs.Listen.{device_notice, device_status, listen_pla
 use Rattle.avtp_tool.specs.state.Run.{Outcome, task_of}
 
 -- what a run of `listen` did, which makes no file
-abbrev pub HearsOutcome : Listening → Files → Type 0 → Bool → List (List ℕ) → Status → Yield → Type 0
+abbrev pub HearsOutcome : Listening → Files → (FaultPlace → Type 0) → Bool → List (List ℕ) → Status → Yield → Type 0
 HearsOutcome asked all fault failed came ended yields = Outcome (listen asked) all fault failed came ended yields None
 
 joins_text : (handed : List Shown → Type 0) → Joins handed HandsNothing handed
@@ -51,7 +52,7 @@ plain_status true status.Limit plain = (refl, refl)
 plain_status true status.DeviceFault plain = (refl, refl)
 plain_status true status.TalkInput plain = (refl, refl)
 
-plain_tells : {s t : ShelfState} {handed : List Shown → Type 0} {before now : Option (List ℕ)} (asked : Listening) (all : Files) (fault : Type 0) (failed : Bool) (result : Result Status Failed) → IsPlain failed result
+plain_tells : {s t : ShelfState} {handed : List Shown → Type 0} {before now : Option (List ℕ)} (asked : Listening) (all : Files) (fault : FaultPlace → Type 0) (failed : Bool) (result : Result Status Failed) → IsPlain failed result
     → TellsRun (PlanOutcome (listen_plan asked) all fault) handed s t before now result → TellsRun (HearsOutcome asked all fault failed) handed s t before now result
 plain_tells {s} {t} {handed} {before} {now} asked all fault failed result plain told = record {
   came = told.came;
@@ -75,7 +76,7 @@ plain_tells {s} {t} {handed} {before} {now} asked all fault failed result plain 
 noticed : (failed : Bool) (ended : Status) → failed ≡ true → status.Done ≡ ended → (status.DeviceFault ≡ device_status failed ended) × (device_fault_line ≡ device_notice failed ended)
 noticed failed ended is done = rw (is, sym done) (refl, refl)
 
-module _ {s t : ShelfState} {handed : List Shown → Type 0} {before : Option (List ℕ)} {h h' : SinkState} {l l' : List ℕ} (asked : Listening) (all : Files) (fault : Type 0) (failed : Bool) where
+module _ {s t : ShelfState} {handed : List Shown → Type 0} {before : Option (List ℕ)} {h h' : SinkState} {l l' : List ℕ} (asked : Listening) (all : Files) (fault : FaultPlace → Type 0) (failed : Bool) where
   fault_tells : (result : Result Status Failed) → failed ≡ true → EndsWith status.DeviceFault h h' l l' result device_fault_line
       → TellsRun (PlanOutcome (listen_plan asked) all fault) handed s t before (written h.held l) (Ok status.Done) → TellsRun (HearsOutcome asked all fault failed) handed s t before (written h'.held l') result
   fault_tells result is last told =
@@ -115,7 +116,7 @@ module _ {s t : ShelfState} {h h' : SinkState} {l l' : List ℕ} {handed : List 
       let does = subst (DoesFiles (listen_plan asked) handed s t h h' l l') same did in
       let never = never_ends result status.DeviceFault refl does.own in
       record {
-        tells = λ all told still. tells_all does.keeps.files (plain_tells asked all (Rose s.reading_faults t.reading_faults) failed result plain (does.tells all told still));
+        tells = λ all told still. tells_all does.keeps.files (plain_tells asked all (FailsAt s.reading_faults t.reading_faults) failed result plain (does.tells all told still));
         files = does.keeps.files;
         slots = does.keeps.slots;
         counts = does.counts;
@@ -132,7 +133,7 @@ module _ {s t : ShelfState} {h h' : SinkState} {l l' : List ℕ} {handed : List 
       let does = subst (DoesFiles (listen_plan asked) handed s t h h' l l') done did in
       let still : t.reading_faults ≡ s.reading_faults = does.counts.quiet (λ e. cc) (λ e. cc) (λ e. cc) in
       record {
-        tells = λ all told still. tells_all does.keeps.files (fault_tells asked all (Rose s.reading_faults t.reading_faults) failed result is last (does.tells all told still));
+        tells = λ all told still. tells_all does.keeps.files (fault_tells asked all (FailsAt s.reading_faults t.reading_faults) failed result is last (does.tells all told still));
         files = does.keeps.files;
         slots = does.keeps.slots;
         counts = record { never_falls = omega (arith, still); fault = λ e. absurd (ends_not status.ReadFault (λ x. cc) last e); quiet = quiet_at result still };
@@ -156,7 +157,7 @@ less_is first second less = rw (sym first, sym second) (lt-ltb _ _ less)
 pub more_is : {a b x y : ℕ} → a ≡ x → b ≡ y → b ≤ a → nat_lt x y ≡ true → ⊥
 more_is first second more is = let t : false ≡ true = sym (rw (sym first, sym second) (le-ltb _ _ more)) ∙ is in cc
 
-pub failed_as : {h h' : SinkState} {l l' : List ℕ} {Comes : Files → Type 0 → List (List ℕ) → Status → Yield → Type 0} {names : List (List ℕ)} {s t : ShelfState} {handed : List Shown → Type 0} {e : Failed} (result : Result Status Failed) → IsErr result
+pub failed_as : {h h' : SinkState} {l l' : List ℕ} {Comes : Files → (FaultPlace → Type 0) → List (List ℕ) → Status → Yield → Type 0} {names : List (List ℕ)} {s t : ShelfState} {handed : List Shown → Type 0} {e : Failed} (result : Result Status Failed) → IsErr result
     → DoesReading Comes names handed s t h h' l l' (Err e) → DoesReading Comes names handed s t h h' l l' result
 failed_as (Ok ended) err does = absurd cc
 failed_as (Err e') err does = record {

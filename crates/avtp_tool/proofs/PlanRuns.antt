@@ -2,10 +2,11 @@
 use Rattle.std.proofs.Common.{◌∙◌, ℕ, List, [], ◌∷◌, Option, Result, ◌≡◌, length, take, refl, sym, subst, arith, Bool, None, false, true, Ok, Err}
 use Rattle.std.proofs.lemmas.List.{append-nil}
 use Rattle.std.specs.Prelude.{◌≢◌, IfOk}
+use Rattle.avtp_base.specs.declared.failed.FaultPlace.{FaultPlace}
 use Rattle.avtp_base.specs.declared.failed.Failed.{Failed}
 use Rattle.avtp_base.specs.States.{Asks, ShelfState, SinkState}
 use Rattle.sample_schedule.specs.declared.shown.Shown.{Shown}
-use Rattle.avtp_base.specs.Faults.{Rose}
+use Rattle.avtp_base.specs.Faults.{FailsAt}
 use Rattle.capture_io.specs.Reads.{OnlyReads}
 use Rattle.avtp_text.specs.Written.{written}
 use Rattle.avtp_base.specs.Files.{Files}
@@ -27,7 +28,7 @@ use Rattle.run_report.specs.declared.status.Status.TheVariants as status
 use Rattle.avtp_tool.specs.Run.{again_of, is_listening}
 use Rattle.avtp_tool.specs.state.Run.{Outcome, task_of}
 
-single : {a b : ShelfState} {before now : Option (List ℕ)} {handed : List Shown → Type 0} {result : Result Status Failed} (plan : ReadPlan) (files : Files) (fault : Type 0) (name : List ℕ) → plan.names ≡ name ∷ [] → TellsYield (one_outcome plan files fault name) handed before now result → Asks (name ∷ []) a b
+single : {a b : ShelfState} {before now : Option (List ℕ)} {handed : List Shown → Type 0} {result : Result Status Failed} (plan : ReadPlan) (files : Files) (fault : FaultPlace → Type 0) (name : List ℕ) → plan.names ≡ name ∷ [] → TellsYield (one_outcome plan files fault name) handed before now result → Asks (name ∷ []) a b
     → TellsRun (PlanOutcome plan files fault) handed a b before now result
 single plan files fault name named t asked =
     run_asked (PlanOutcome plan files fault) (name ∷ [])
@@ -38,7 +39,7 @@ single plan files fault name named t asked =
 pub one_file : {s t : ShelfState} {h h' : SinkState} {l l' : List ℕ} {result : Result Status Failed} {handed : List Shown → Type 0} (plan : ReadPlan) (name : List ℕ) → plan.names ≡ name ∷ []
     → DoesFile (plan.report name) handed plan.limit name s t h h' l l' result → DoesFiles plan handed s t h h' l l' result
 one_file {s} {t} {h} {h'} {l} {l'} {result = result} {handed} plan name named does = record {
-  tells = λ all told still. single plan all (Rose s.reading_faults t.reading_faults) name named (does.tells all told) does.keeps.asked;
+  tells = λ all told still. single plan all (FailsAt s.reading_faults t.reading_faults) name named (does.tells all told) does.keeps.asked;
   count = length plan.names;
   within = omega arith;
   all = λ done. refl;
@@ -49,16 +50,16 @@ one_file {s} {t} {h} {h'} {l} {l'} {result = result} {handed} plan name named do
 }
 
 -- each possible outcome of the reading is also an outcome of the request, with no capture made
-abbrev pub IsReadingOf : Request → (Files → Type 0 → List (List ℕ) → Status → Yield → Type 0) → Type 1
-IsReadingOf request Comes = (all : Files) (fault : Type 0) (failed : Bool) (came : List (List ℕ)) (ended : Status) (yields : Yield) → Comes all fault came ended yields → Outcome request all fault failed came ended yields None
+abbrev pub IsReadingOf : Request → (Files → (FaultPlace → Type 0) → List (List ℕ) → Status → Yield → Type 0) → Type 1
+IsReadingOf request Comes = (all : Files) (fault : FaultPlace → Type 0) (failed : Bool) (came : List (List ℕ)) (ended : Status) (yields : Yield) → Comes all fault came ended yields → Outcome request all fault failed came ended yields None
 
-pub reading_runs : {s t : ShelfState} {h h' : SinkState} {l l' : List ℕ} {result : Result Status Failed} {handed : List Shown → Type 0} {Comes : Files → Type 0 → List (List ℕ) → Status → Yield → Type 0} {names : List (List ℕ)} (request : Request) (failed : Bool) (other : Request)
+pub reading_runs : {s t : ShelfState} {h h' : SinkState} {l l' : List ℕ} {result : Result Status Failed} {handed : List Shown → Type 0} {Comes : Files → (FaultPlace → Type 0) → List (List ℕ) → Status → Yield → Type 0} {names : List (List ℕ)} (request : Request) (failed : Bool) (other : Request)
     → request ≡ other → IsReadingOf request Comes → is_listening request ≡ false → files_of request ≡ names → output_of request ≡ None → again_of request ≡ [] → DoesReading Comes names handed s t h h' l l' result → Runs (task_of other) handed failed s t h h' l l' result
 reading_runs {s} {t} {h} {h'} {l} {l'} {result} {handed} {names = names} request failed other same is deaf named none once does = subst (λ (q : Request). Runs (task_of q) handed failed s t h h' l l' result) same (record {
   tells = λ all told still.
       let to = does.tells all told still in
       tells_all does.keeps.files
-      (record { came = to.came; ended = to.ended; yields = to.yields; outcome = is all (Rose s.reading_faults t.reading_faults) failed to.came to.ended to.yields to.outcome; whole = to.whole; part = to.part });
+      (record { came = to.came; ended = to.ended; yields = to.yields; outcome = is all (FailsAt s.reading_faults t.reading_faults) failed to.came to.ended to.yields to.outcome; whole = to.whole; part = to.part });
   files = subst (λ (o : Option (List ℕ)). KeepsFilesBut o s.files t.files) (sym none) does.keeps.files;
   slots = subst (λ (o : Option (List ℕ)). KeepsSlotsFor o t.files s.slots t.slots) (sym none) does.keeps.slots;
   counts = subst (λ (ns : List (List ℕ)). CountsReading ns s.files s.reading_faults t.reading_faults result) (sym named) does.counts;
@@ -72,7 +73,7 @@ reading_runs {s} {t} {h} {h'} {l} {l'} {result} {handed} {names = names} request
 
 -- ---- a command that gives nothing to devices
 
-outcome_deaf : (request : Request) (all : Files) (fault : Type 0) (failed other : Bool) (came : List (List ℕ)) (ended : Status) (yields : Yield) (made : Option (List ℕ)) → is_listening request ≡ false
+outcome_deaf : (request : Request) (all : Files) (fault : FaultPlace → Type 0) (failed other : Bool) (came : List (List ℕ)) (ended : Status) (yields : Yield) (made : Option (List ℕ)) → is_listening request ≡ false
     → Outcome request all fault failed came ended yields made → Outcome request all fault other came ended yields made
 outcome_deaf (show limit file) all fault failed other came ended yields made deaf o = o
 outcome_deaf (check limit names) all fault failed other came ended yields made deaf o = o

@@ -1,6 +1,7 @@
 -- If a run did what the words ask for and its text was then written, the command's promise `HasRun` holds for the run.
 use Rattle.std.proofs.Common.{◌≡◌, ℕ, ℤ, List, Bool, refl, sym, subst, ◌∙◌, ◌∷◌, ◌++◌, Some, ◌≢◌, [], Result, false, inl, inr, arith}
 use Rattle.std.specs.Prelude.{IfOk, IsSome}
+use Rattle.avtp_base.specs.declared.failed.FaultPlace.{FaultPlace}
 use Rattle.avtp_base.specs.Files.{Files}
 use Rattle.packet_journal.specs.Packets.{PacketJournal}
 use Rattle.avtp_words.specs.Grammar.{Agreeing, Request, listen, Listening, IsCommandLine, gateway, Turning, output_of}
@@ -9,7 +10,7 @@ use Rattle.avtp_base.specs.declared.failed.Failed.{Failed}
 use Rattle.avtp_base.specs.States.{Asks, ShelfState, SinkState}
 use Rattle.avtp_text.specs.Written.{Grows, written}
 use Rattle.sample_schedule.specs.declared.shown.Shown.{Shown}
-use Rattle.avtp_base.specs.Faults.{IsCounted}
+use Rattle.avtp_base.specs.Faults.{FailsAt, IsCounted}
 use Rattle.avtp_text.proofs.Growth.{grows_further}
 use Rattle.avtp_base.proofs.Files.{KeepsFiles-refl}
 use Rattle.avtp_base.proofs.Told.{Appends-nil, Keeps-refl}
@@ -45,14 +46,14 @@ agreement_of request files failed halt asked x y shift p none compares =
     let same : (report_for request files failed halt).yields.text ≡ compared_text asked x y = rw (none, compares.compares, compares.told_a, compares.told_b) refl in
     subst (HasAgreement asked p x y) (sym same) (has_agreement asked x y shift p compares.hears_a compares.hears_b)
 
-headline_of : (request : Request) (files : Files) (fault : Type 0) (failed : Bool) (halt : Halt) → CanEndWith request files fault halt
+headline_of : (request : Request) (files : Files) (fault : FaultPlace → Type 0) (failed : Bool) (halt : Halt) → CanEndWith request files fault halt
     → (asked : Listening) (earlier later : List (List ℕ)) (name bytes : List ℕ) → request ≡ listen asked → (report_for request files failed halt).came ≡ earlier ++ name ∷ later → files name ≡ Some bytes
     → HasHeadline asked files fault earlier name bytes (report_for request files failed halt).yields
 headline_of request files fault failed halt can asked earlier later name bytes is reached told =
     subst (λ (q : Request). HasHeadline asked files fault earlier name bytes (report_for q files failed halt).yields) (sym is)
     (has_headline asked files fault failed halt earlier later name bytes (subst (λ (q : Request). CanEndWith q files fault halt) is can) (subst (λ (q : Request). (report_for q files failed halt).came ≡ earlier ++ name ∷ later) is reached) told)
 
-kept_of : (words : List (List ℕ)) (request : Request) (files : Files) (fault : Type 0) (failed : Bool) (halt : Halt) (asked : Turning) (capture : List ℕ) → IsCommandLine words request → CanEndWith request files fault halt → request ≡ gateway asked
+kept_of : (words : List (List ℕ)) (request : Request) (files : Files) (fault : FaultPlace → Type 0) (failed : Bool) (halt : Halt) (asked : Turning) (capture : List ℕ) → IsCommandLine words request → CanEndWith request files fault halt → request ≡ gateway asked
     → (report_for request files failed halt).made ≡ Some capture → KeepsInput asked files fault (report_for request files failed halt).ended capture
 kept_of words request files fault failed halt asked capture line can same some =
     let says = subst (IsCommandLine words) same line in
@@ -79,15 +80,15 @@ reports_of words {request} {handed} {failed} {shelf} {shelf'} {out} {mid} {out'}
       given = tells.part.items;
       begun = so.begun;
     } in
-    let complete = λ (quiet : ReadsAll shelf shelf'). never_ends_with request files _ at.0 (quiet_not _ _ quiet) at.1 in
+    let complete = λ (quiet : ReadsAll shelf shelf'). never_ends_with request files (FailsAt shelf.reading_faults shelf'.reading_faults) at.0 (quiet_not _ _ quiet) at.1 in
     record {
       halt = at.0;
       possible = at.1;
       complete = complete;
       did = subst (λ (report : RunReport). Follows report request handed shelf shelf' out out' ended) at.2 follows;
-      headline = headline_of request files _ failed at.0 at.1;
+      headline = headline_of request files (FailsAt shelf.reading_faults shelf'.reading_faults) failed at.0 at.1;
       agreement = λ quiet asked x y shift p compares. agreement_of request files failed at.0 asked x y shift p (complete quiet) compares;
-      kept = λ asked capture same makes. kept_of words request files _ failed at.0 asked capture line at.1 same makes;
+      kept = λ asked capture same makes. kept_of words request files (FailsAt shelf.reading_faults shelf'.reading_faults) failed at.0 asked capture line at.1 same makes;
     }
 
 -- ---- the command
@@ -135,7 +136,7 @@ pub no_memory : (words : List (List ℕ)) (request : Request) (handed : List Sho
 no_memory words request handed still failed shelf out line nothing kept = record {
   reports = λ files told some. record {
     halt = no_halt;
-    possible = can_end request files _;
+    possible = can_end request files (FailsAt shelf.reading_faults shelf.reading_faults);
     complete = λ quiet. refl;
     did = record {
       whole = λ memory write. absurd (memory refl);
@@ -145,9 +146,9 @@ no_memory words request handed still failed shelf out line nothing kept = record
       given = nothing;
       begun = part_kept (output_of request) (report_for request files failed no_halt).made shelf.files shelf.files (KeepsFiles-refl shelf.files);
     };
-    headline = headline_of request files _ failed no_halt (can_end request files _);
+    headline = headline_of request files (FailsAt shelf.reading_faults shelf.reading_faults) failed no_halt (can_end request files (FailsAt shelf.reading_faults shelf.reading_faults));
     agreement = λ quiet asked x y shift p compares. agreement_of request files failed no_halt asked x y shift p refl compares;
-    kept = λ asked capture same makes. kept_of words request files _ failed no_halt asked capture line (can_end request files _) same makes;
+    kept = λ asked capture same makes. kept_of words request files (FailsAt shelf.reading_faults shelf.reading_faults) failed no_halt asked capture line (can_end request files (FailsAt shelf.reading_faults shelf.reading_faults)) same makes;
   };
   grows = record { more = []; appends = Appends-nil out.held };
   files = files_still (output_of request) shelf.files;

@@ -6,7 +6,7 @@ use Rattle.std.proofs.lemmas.List.Elements.{Contains-append_left, Contains-appen
 use Rattle.std.proofs.lemmas.List.{take_all}
 use Rattle.option_words.specs.Word.{texts}
 use Rattle.avtp_base.specs.Files.{Files, KeepsFiles, IsMissing}
-use Rattle.avtp_base.specs.Faults.{Rose}
+use Rattle.avtp_base.specs.Faults.{FailsAt, HasOneMore, ReadingFaults}
 use Rattle.sample_schedule.specs.declared.shown.Shown.{Shown}
 use Rattle.avtp_base.specs.States.{ShelfState, SinkState, WasAsked}
 use Rattle.capture_io.specs.Reads.{OnlyReads}
@@ -97,12 +97,12 @@ reads_none {s} {now} plan none = record {
 not_done : (s other : Status) → is_done s ≡ true → is_done other ≡ false → s ≢ other
 not_done s other goes stops e = let t : false ≡ true = sym stops ∙ (ap is_done (sym e) ∙ goes) in cc
 
-counts_step : {f h : Option Files} {r q r' : ℕ} (result : Result Status Failed) (names earlier later : List (List ℕ)) (name : List ℕ) → names ≡ earlier ++ name ∷ later → KeepsFiles f h → q ≡ r
+counts_step : {f h : Option Files} {r q r' : ReadingFaults} (result : Result Status Failed) (names earlier later : List (List ℕ)) (name : List ℕ) → names ≡ earlier ++ name ∷ later → KeepsFiles f h → q ≡ r
     → CountsReading (name ∷ []) h q r' result → CountsReading names f r r' result
 counts_step {f} {h} {r} {q} {r'} result names earlier later name split keeps same counts = record {
-  never_falls = subst (λ (n : ℕ). n ≤ r') same counts.never_falls;
+  never_falls = subst (λ (faults : ReadingFaults). faults.count ≤ r'.count) same counts.never_falls;
   fault = λ e. elim (counts.fault e) [
-    | inl rose ↦ inl (subst (λ (n : ℕ). Rose n r') same rose)
+    | inl once ↦ inl (subst (λ (faults : ReadingFaults). HasOneMore faults r') same once)
     | inr one ↦ inr (record {
       name = one.name;
       one = subst (λ (ns : List (List ℕ)). Contains ns one.name) (sym split) (Contains-append_right earlier (name ∷ later) one.name (Contains-append_left (name ∷ []) later one.name one.one));
@@ -115,11 +115,11 @@ counts_step {f} {h} {r} {q} {r'} result names earlier later name split keeps sam
   quiet_at (Ok s) quiet = λ fault memory write. quiet fault memory write ∙ same
   quiet_at (Err e) quiet = tt
 
-tells_step : (q r r' : ℕ) {mid now : Option (List ℕ)} {handed : List Shown → Type 0} {result : Result Status Failed} (plan : ReadPlan) (all later : Files) (name : List ℕ) → later name ≡ all name → q ≡ r
-    → TellsYield (one_outcome plan later (Rose q r') name) handed mid now result → TellsYield (one_outcome plan all (Rose r r') name) handed mid now result
+tells_step : (q r r' : ReadingFaults) {mid now : Option (List ℕ)} {handed : List Shown → Type 0} {result : Result Status Failed} (plan : ReadPlan) (all later : Files) (name : List ℕ) → later name ≡ all name → q ≡ r
+    → TellsYield (one_outcome plan later (FailsAt q r') name) handed mid now result → TellsYield (one_outcome plan all (FailsAt r r') name) handed mid now result
 tells_step q r r' {mid} {now} {handed} {result} plan all later name is same tells =
-    subst (λ (n : ℕ). TellsYield (one_outcome plan all (Rose n r') name) handed mid now result) same
-    (subst (λ (t : Option (List ℕ)). TellsYield (one_outcome plan (λ (n : List ℕ). t) (Rose q r') name) handed mid now result) is tells)
+    subst (λ (faults : ReadingFaults). TellsYield (one_outcome plan all (FailsAt faults r') name) handed mid now result) same
+    (subst (λ (t : Option (List ℕ)). TellsYield (one_outcome plan (λ (n : List ℕ). t) (FailsAt q r') name) handed mid now result) is tells)
 
 keeps_more : {s t u : ShelfState} (files : List (String Global)) (i : ℕ) (d : String Global) (name : List ℕ) → i < length files → string_bytes (get_or files i d) ≡ name
     → OnlyReads s t (take i (texts files)) → OnlyReads t u (name ∷ []) → OnlyReads s u (take (i + 1) (texts files))
@@ -141,9 +141,9 @@ reads_more {s} {t} {u} {before} {h'} {h''} {l'} {l''} {so_far = so_far} {result}
           let some = told_still t.files u.files second.keeps.files still in
           let later = told_later s.files t.files all told first.keeps.files some in
           let to = first.tells all told some in
-          let tells = subst (λ (x : Result Status Failed). TellsYield (one_outcome plan all (Rose s.reading_faults u.reading_faults) name) handed (written h'.held l') (written h''.held l'') x) same (tells_step t.reading_faults s.reading_faults u.reading_faults plan all later.0 name (later.2 name) first.reading (second.tells later.0 later.1)) in
+          let tells = subst (λ (x : Result Status Failed). TellsYield (one_outcome plan all (FailsAt s.reading_faults u.reading_faults) name) handed (written h'.held l') (written h''.held l'') x) same (tells_step t.reading_faults s.reading_faults u.reading_faults plan all later.0 name (later.2 name) first.reading (second.tells later.0 later.1)) in
           subst (λ (ns : List (List ℕ)). IsReadTo plan all_handed all ns (joined so_far ended) before (written h''.held l'')) (more_named files i d name within is)
-          (tells_done before (written h'.held l') (written h''.held l'') plan all (Rose s.reading_faults u.reading_faults) (take i (texts files)) name so_far ended stops join first.done goes to tells);
+          (tells_done before (written h'.held l') (written h''.held l'') plan all (FailsAt s.reading_faults u.reading_faults) (take i (texts files)) name so_far ended stops join first.done goes to tells);
     }
 
 pub reads_stopped : {s t u : ShelfState} {k h' h'' : SinkState} {l l' l'' : List ℕ} {so_far : Status} {result : Result Status Failed} {earlier handed all_handed : List Shown → Type 0} (plan : ReadPlan) (files : List (String Global)) (i : ℕ) (d : String Global) (name : List ℕ)
@@ -160,7 +160,7 @@ reads_stopped {s} {t} {u} {so_far = so_far} {result} plan files i d name join na
           let some = told_still t.files u.files second.keeps.files still in
           let later = told_later s.files t.files all told first.keeps.files some in
           let to = first.tells all told some in
-          tells_stopped plan all (Rose s.reading_faults u.reading_faults) before_it rest name so_far join split first.done to (tells_step t.reading_faults s.reading_faults u.reading_faults plan all later.0 name (later.2 name) first.reading (second.tells later.0 later.1)) stopped
+          tells_stopped plan all (FailsAt s.reading_faults u.reading_faults) before_it rest name so_far join split first.done to (tells_step t.reading_faults s.reading_faults u.reading_faults plan all later.0 name (later.2 name) first.reading (second.tells later.0 later.1)) stopped
           (λ names stands. subst (λ (ns : List (List ℕ)). WasAsked u.asked (names ++ ns)) (sym (more_named files i d name within is)) (keeps.asked names stands));
       count = i + 1;
       within = subst (λ (ns : List (List ℕ)). i + 1 ≤ length ns) (sym named) (omega (arith, within, all_names));

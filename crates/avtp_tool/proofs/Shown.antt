@@ -1,5 +1,6 @@
 -- The lines of a capture's records, and what `show` prints of them.
 use Rattle.std.proofs.Common.{◌≡◌, ℕ, List, length, Option, [], refl, sym, subst, ◌+◌, ◌∷◌, ◌++◌, ap, ◌∙◌, arith, length-append, Result, take, Some}
+use Rattle.avtp_base.specs.declared.failed.FaultPlace.{FaultPlace}
 use Rattle.avtp_base.specs.Told.{Appends}
 use Rattle.pcap_frames.specs.Capture.{Record}
 use Rattle.capture_io.specs.Source.{HasGiven, Sourcing}
@@ -52,7 +53,7 @@ one_printed limit bytes remains source records r frames before mid now given cou
 
 -- ---- what `show` yields for a file
 
-pub show_told : {h h' : SinkState} {w w' : List ℕ} {result : Result Status Failed} (limit : ℕ) (bytes : List ℕ) (fault : Type 0) (printed : Printed) (before : Option (List ℕ)) → HasPrinted limit bytes fault printed before (written h.held w)
+pub show_told : {h h' : SinkState} {w w' : List ℕ} {result : Result Status Failed} (limit : ℕ) (bytes : List ℕ) (fault : FaultPlace → Type 0) (printed : Printed) (before : Option (List ℕ)) → HasPrinted limit bytes fault printed before (written h.held w)
     → EndsWith (status_of printed.end) h h' w w' result (end_line limit printed.frames printed.end) → IsReadAndTold (show_report limit) HandsNothing limit bytes fault printed.end before (written h'.held w') result
 show_told limit bytes fault printed before p ends = record {
   records = p.records;

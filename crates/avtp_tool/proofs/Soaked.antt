@@ -2,6 +2,7 @@
 use Rattle.std.proofs.Common.{None, inl, ℕ, List, Result, Ok, Err, refl, ◌≡◌, ◌≢◌, ◌⊎◌, inr, [], sym, subst, Option, false, ap, arith}
 use Rattle.std.specs.Prelude.{IfOk}
 use Rattle.std.proofs.lemmas.List.{append-nil}
+use Rattle.avtp_base.specs.Faults.{ReadingFaults}
 use Rattle.avtp_base.specs.declared.failed.Failed.{Failed}
 use Rattle.avtp_base.specs.States.{SinkState, Asks, ShelfState, WasAsked}
 use Rattle.avtp_text.specs.Written.{written}
@@ -51,9 +52,9 @@ with_names : (a : ShelfState) (before now : Option (List ℕ)) (text : List ℕ)
 with_names a before now text ended (Ok s) whole = λ memory write. let w = whole memory write in (w.0, record { text = w.1; items = refl }, asks_none a)
 with_names a before now text ended (Err e) whole = tt
 
-quiet : (count : ℕ) (result : Result Status Failed) → IfOk result (λ s. s ≢ status.ReadFault → s ≢ status.Memory → s ≢ status.WriteFault → count ≡ count)
-quiet count (Ok s) = λ fault memory write. refl
-quiet count (Err e) = tt
+quiet : (faults : ReadingFaults) (result : Result Status Failed) → IfOk result (λ s. s ≢ status.ReadFault → s ≢ status.Memory → s ≢ status.WriteFault → faults ≡ faults)
+quiet faults (Ok s) = λ fault memory write. refl
+quiet faults (Err e) = tt
 
 pub soak_runs : {s : ShelfState} {h h' : SinkState} {l l' : List ℕ} {result : Result Status Failed} (packets : ℕ) (other : Request) → soak packets ≡ other → Says (soak_report packets) h h' l l' result
     → Runs (task_of other) HandsNothing false s s h h' l l' result

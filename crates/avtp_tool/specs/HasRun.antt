@@ -1,7 +1,7 @@
 -- What the command promises: `HasRun` if the words are a command line, `RefusesWords` if they are not.
 use Rattle.std.specs.Prelude.{◌≡◌, ℕ, ℤ, List, take, Some, ◌≢◌, ◌++◌, ◌∷◌, Bool, true, false, ◌≤◌, ◌⊎◌, None, IsSome}
 use mathlib.Core.List.{IsPrefix}
-use Rattle.avtp_base.specs.Faults.{IsQuiet, Rose}
+use Rattle.avtp_base.specs.Faults.{FailsAt, HasOneMore, IsQuiet, Rose}
 use Rattle.avtp_base.specs.States.{ShelfState, Asks, SinkState}
 use Rattle.avtp_base.specs.Files.{Files}
 use Rattle.capture_io.specs.Formats.{records_in}
@@ -28,7 +28,7 @@ use Rattle.avtp_tool.specs.Run.{CanEndWith, report_for, is_listening, names_of}
 
 -- no read fault occurred
 abbrev pub ReadsAll : ShelfState → ShelfState → Type 0
-ReadsAll shelf shelf' = IsQuiet shelf.reading_faults shelf'.reading_faults
+ReadsAll shelf shelf' = IsQuiet shelf.reading_faults.count shelf'.reading_faults.count
 
 -- `agree` compares the captures `x` and `y`, each up to its end, a refused field or the limit. In both captures, a
 -- listener hears the same talker, which keeps the rules. In each capture, packets may be lost, repeated or reordered.
@@ -58,22 +58,23 @@ pub record Follows (report : RunReport) (request : Request) (handed : List Shown
 -- What a run of the request over these files printed, gave to devices, asked for and made.
 pub record Reports (request : Request) (files : Files) (failed : Bool) (handed : List Shown → Type 0) (shelf shelf' : ShelfState)
     (out out' : SinkState) (ended : Status) : Type 0 where
-  -- the read fault that ended the run, if one did
+  -- The read fault that ended the run, if one did. It is the only read fault of the run, and if the shelf shows where
+  -- its last read fault occurred, it is this one.
   pub halt : Halt
-  pub possible : CanEndWith request files (Rose shelf.reading_faults shelf'.reading_faults) halt
+  pub possible : CanEndWith request files (FailsAt shelf.reading_faults shelf'.reading_faults) halt
   pub complete : ReadsAll shelf shelf' → halt ≡ no_halt
   -- The request, the files, `failed` and the read fault alone determine what the run did.
   pub did : Follows (report_for request files failed halt) request handed shelf shelf' out out' ended
   -- Take a file that `listen` reached. If a talker that keeps the rules sent the records that were read, the file
   -- yields what the headline says of these records. Different files can have different talkers.
   pub headline : (asked : Listening) (earlier later : List (List ℕ)) (name bytes : List ℕ) → request ≡ listen asked → (report_for request files failed halt).came ≡ earlier ++ name ∷ later →
-      files name ≡ Some bytes → HasHeadline asked files (Rose shelf.reading_faults shelf'.reading_faults) earlier name bytes (report_for request files failed halt).yields
+      files name ≡ Some bytes → HasHeadline asked files (FailsAt shelf.reading_faults shelf'.reading_faults) earlier name bytes (report_for request files failed halt).yields
   -- what `agree` prints of two captures of one talker that keeps the rules, if no read fault occurred
   pub agreement : ReadsAll shelf shelf' → (asked : Agreeing) (x y : List ℕ) (shift : ℤ) (p : PacketJournal) →
       ComparesTalker request files asked x y shift p → HasAgreement asked p x y (report_for request files failed halt).yields.text
   -- what `gateway` keeps of its input in the capture that it makes
   pub kept : (asked : Turning) (capture : List ℕ) → request ≡ gateway asked → (report_for request files failed halt).made ≡ Some capture →
-      KeepsInput asked files (Rose shelf.reading_faults shelf'.reading_faults) (report_for request files failed halt).ended capture
+      KeepsInput asked files (FailsAt shelf.reading_faults shelf'.reading_faults) (report_for request files failed halt).ended capture
 
 -- ---- why a run ended with a fault
 
@@ -83,17 +84,17 @@ pub record TellsFailed (request : Request) (failed : Bool) (ended : Status) : Ty
   pub fault : ended ≡ status.DeviceFault → (is_listening request ≡ true) × (failed ≡ true)
   pub quiet : is_listening request ≡ true → ended ≡ status.Done → failed ≡ false
 
--- A run ends with a read fault only if the shelf counted a read fault or a file is missing. The run ends with a write
--- fault only if the sink or the shelf counted a write fault. The counts of write faults rise only if the run ends with
--- a write fault. If the run ends with a status that is none of `ReadFault`, `WriteFault` and `Memory`, the count of
--- read faults is unchanged.
+-- A run ends with a read fault only if the shelf counted exactly one read fault or a file is missing. The run ends with
+-- a write fault only if the sink or the shelf counted a write fault. The counts of write faults rise only if the run
+-- ends with a write fault. If the run ends with a status that is none of `ReadFault`, `WriteFault` and `Memory`, the
+-- read faults are unchanged.
 pub record HasCauses (request : Request) (shelf shelf' : ShelfState) (out out' : SinkState) (ended : Status) : Type 0 where
-  pub read : ended ≡ status.ReadFault → Rose shelf.reading_faults shelf'.reading_faults ⊎ IsOneMissing (files_of request) shelf.files
+  pub read : ended ≡ status.ReadFault → HasOneMore shelf.reading_faults shelf'.reading_faults ⊎ IsOneMissing (files_of request) shelf.files
   pub not_read : ended ≢ status.ReadFault → ended ≢ status.WriteFault → ended ≢ status.Memory → shelf'.reading_faults ≡ shelf.reading_faults
   pub write : ended ≡ status.WriteFault → Rose out.faults out'.faults ⊎ Rose shelf.writing_faults shelf'.writing_faults
   pub not_write : ended ≢ status.WriteFault → (out'.faults ≡ out.faults) × (shelf'.writing_faults ≡ shelf.writing_faults)
   pub no_output : output_of request ≡ None → shelf'.writing_faults ≡ shelf.writing_faults
-  pub reading : shelf.reading_faults ≤ shelf'.reading_faults
+  pub reading : shelf.reading_faults.count ≤ shelf'.reading_faults.count
   pub writing : shelf.writing_faults ≤ shelf'.writing_faults
 
 -- ---- the command

@@ -1,5 +1,6 @@
 -- What a run of any command does.
 use Rattle.std.specs.Prelude.{◌≡◌, ℕ, List, [], None, Bool, ◌∷◌, ◌++◌, option_to_list, true, false}
+use Rattle.avtp_base.specs.declared.failed.FaultPlace.{FaultPlace}
 use Rattle.avtp_base.specs.Files.{Files}
 use Rattle.avtp_words.specs.Grammar.{Request, show, check, listen, talk, soak, agree, gateway, files_of, output_of}
 use Rattle.run_report.specs.Halt.{CanHalt, Halt, no_halt}
@@ -11,7 +12,7 @@ use Rattle.check_command.specs.Check.{check_plan}
 use Rattle.listen_command.specs.Listen.{listen_plan, with_devices}
 use Rattle.agree_command.specs.Agree.{agree_report}
 use Rattle.gateway_command.specs.Gateway.{gateway_report}
-use Rattle.talk_command.specs.Talk.{CanTalkHalt, talk_report}
+use Rattle.talk_command.specs.Talk.{CanTalkHalt, FailsSomewhere, talk_report}
 use Rattle.avtp_tool.specs.Show.{show_plan}
 use Rattle.avtp_tool.specs.Soak.{soak_report}
 
@@ -26,12 +27,13 @@ report_for (soak packets) files failed halt = record { came = []; ended = status
 report_for (agree asked) files failed halt = agree_report asked (files asked.a) (files asked.b) halt
 report_for (gateway asked) files failed halt = gateway_report asked (files asked.input) halt
 
--- A run of the request over these files can end with this read fault. A read fault is possible only if `fault` holds.
-abbrev pub CanEndWith : Request → Files → Type 0 → Halt → Type 0
+-- A run of the request over these files can end with this read fault. A read fault is possible only if `fault` holds of
+-- its place.
+abbrev pub CanEndWith : Request → Files → (FaultPlace → Type 0) → Halt → Type 0
 CanEndWith (show limit file) files fault halt = CanHalt limit (file ∷ []) files fault halt
 CanEndWith (check limit names) files fault halt = CanHalt limit names files fault halt
 CanEndWith (listen asked) files fault halt = CanHalt asked.listener.limit asked.files files fault halt
-CanEndWith (talk asked) files fault halt = CanTalkHalt fault halt
+CanEndWith (talk asked) files fault halt = CanTalkHalt (FailsSomewhere fault) halt
 CanEndWith (soak packets) files fault halt = halt ≡ no_halt
 CanEndWith (agree asked) files fault halt = CanHalt asked.listener.limit (asked.a ∷ asked.b ∷ []) files fault halt
 CanEndWith (gateway asked) files fault halt = CanHalt asked.listener.limit (asked.input ∷ asked.input ∷ []) files fault halt

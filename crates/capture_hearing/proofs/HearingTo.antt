@@ -17,7 +17,7 @@ use Rattle.presenter_ring.specs.declared.receiver.Pull.{Pull}
 use Rattle.avtp_base.specs.States.{ShelfState}
 use Rattle.listener.proofs.Listened.{out_same, out_further, out_at_end}
 use Rattle.listener.proofs.Fed.{prefix_twice}
-use Rattle.avtp_base.specs.Faults.{Rose}
+use Rattle.avtp_base.specs.Faults.{FailsAt, ReadingFaults}
 use Rattle.capture_io.specs.Ends.{CountsFault}
 use Rattle.capture_io.proofs.Ending.{after_weaker}
 use Rattle.capture_io.proofs.Giving.{given_first}
@@ -242,14 +242,14 @@ module _ {t u : ShelfState} {old_source source : Sourcing} {old new : ListenStat
         let shows = subst (λ (y : Stage). Shows s t begun old_source first old y items) reading showing in
         let same : t.reading_faults ≡ s.reading_faults = shows.capture.counted in
         record {
-          capture = record { reads = reads_then shows.capture.reads next.reads; counted = subst (λ (n : ℕ). CountsFault None (Some how) n u.reading_faults) same (ended_so old_source.ended how t.reading_faults u.reading_faults (reads_on reading sound) next.counted) };
+          capture = record { reads = reads_then shows.capture.reads next.reads; counted = subst (λ (faults : ReadingFaults). CountsFault None (Some how) faults u.reading_faults) same (ended_so old_source.ended how t.reading_faults u.reading_faults (reads_on reading sound) next.counted) };
           plan = shut.plan ∙ shows.plan;
           shown = λ limit bytes given begins unclosed.
               let was = shows.shown limit bytes given begins unclosed in
               record {
                 records = was.records;
                 first = was.first;
-                read = after_weaker limit bytes (Rose t.reading_faults u.reading_faults) (Rose s.reading_faults u.reading_faults) how was.records (λ rose. subst (λ (n : ℕ). Rose n u.reading_faults) same rose) (next.ends limit bytes was.records was.read);
+                read = after_weaker limit bytes (FailsAt t.reading_faults u.reading_faults) (FailsAt s.reading_faults u.reading_faults) how was.records (λ place. subst (λ (faults : ReadingFaults). FailsAt faults u.reading_faults place) same) (next.ends limit bytes was.records was.read);
                 stands = shut.stands was.records (length items) was.stands;
                 given = end_grows how old new was.records items (open_at reading sound) shut.closed shut.plan was.given;
                 whole = λ how' is. absurd (let e : Showing how ≡ Ended how' = is in cc);

@@ -1,6 +1,7 @@
 -- What is shown of a capture that was heard.
 use Rattle.std.proofs.Common.{List, [], append-nil, ◌≡◌, refl, subst, ℕ, take, sym, ap, ◌∙◌, Option, length, arith}
 use Rattle.std.proofs.lemmas.List.{take_all}
+use Rattle.avtp_base.specs.declared.failed.FaultPlace.{FaultPlace}
 use mathlib.Core.List.{IsPrefix}
 use Rattle.pcap_frames.specs.Capture.{Record}
 use Rattle.listener.specs.declared.plan.ListenPlan.{ListenPlan}
@@ -42,7 +43,7 @@ due_within plan items records all how first given =
 
 -- the items that are shown of the whole file begin with the items that are shown of the records up to the end of the
 -- reading
-ended_within : (plan : ListenPlan) (limit : ℕ) (bytes : List ℕ) (fault : Type 0) (items : List Shown) (records : List Record) (how : End) → IsPrefix records (records_in (take limit bytes)) → EndsAfter limit bytes fault how records
+ended_within : (plan : ListenPlan) (limit : ℕ) (bytes : List ℕ) (fault : FaultPlace → Type 0) (items : List Shown) (records : List Record) (how : End) → IsPrefix records (records_in (take limit bytes)) → EndsAfter limit bytes fault how records
     → IsPrefix items (shown_by plan records how) → IsPrefix items (shown_by plan (records_in (take limit bytes)) (end_of limit bytes))
 ended_within plan limit bytes fault items records end.ReadFault first ends given = due_within plan items records (records_in (take limit bytes)) (end_of limit bytes) first given
 ended_within plan limit bytes fault items records end.Whole first ends given = let all : records ≡ records_in (take limit bytes) = sym ends.whole ∙ ap records_in ends.ends.1 in rw (sym ends.ends.0, sym all) given
@@ -50,7 +51,7 @@ ended_within plan limit bytes fault items records (end.Refused refusal) first en
 ended_within plan limit bytes fault items records end.Limit first ends given = let all : records ≡ records_in (take limit bytes) = sym ends.whole ∙ ap records_in ends.ends.1 in rw (sym ends.ends.0, sym all) given
 
 -- the items that were shown so far are a prefix of all items that are shown of the file
-pub within : (stage : Stage) (limit : ℕ) (bytes : List ℕ) (fault : Type 0) (remains : Option (List ℕ)) (source : Sourcing) (listener : ListenState) (items : List Shown) → is_closed listener ≡ closed_at stage → IsShown stage limit bytes fault remains source listener items
+pub within : (stage : Stage) (limit : ℕ) (bytes : List ℕ) (fault : FaultPlace → Type 0) (remains : Option (List ℕ)) (source : Sourcing) (listener : ListenState) (items : List Shown) → is_closed listener ≡ closed_at stage → IsShown stage limit bytes fault remains source listener items
     → IsPrefix items (shown_by listener.plan (records_in (take limit bytes)) (end_of limit bytes))
 within Reading limit bytes fault remains source listener items closed shown =
     due_within listener.plan items shown.records (records_in (take limit bytes)) (end_of limit bytes) shown.first (subst (IsPrefix items) (out_at end.Limit listener shown.records closed) shown.given)
@@ -67,7 +68,7 @@ pub record IsAllHeard (plan : ListenPlan) (records : List Record) (how : End) (c
   pub items_are : items ≡ shown_by plan records how
   pub counted : counts ≡ counts_of plan records (shown_by plan records how)
 
-pub all_heard : (plan : ListenPlan) (limit : ℕ) (bytes : List ℕ) (how : End) (fault : Type 0) (remains : Option (List ℕ)) (source : Sourcing) (listener : ListenState) (items : List Shown)
+pub all_heard : (plan : ListenPlan) (limit : ℕ) (bytes : List ℕ) (how : End) (fault : FaultPlace → Type 0) (remains : Option (List ℕ)) (source : Sourcing) (listener : ListenState) (items : List Shown)
     → listener.plan ≡ plan → is_closed listener ≡ is_all how → (shown : IsShown (Ended how) limit bytes fault remains source listener items) → IsAllHeard plan shown.records how listener.counts items
 all_heard plan limit bytes how fault remains source listener items is closed shown =
     let all : items ≡ out listener shown.records = shown.whole how refl in

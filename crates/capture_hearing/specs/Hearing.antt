@@ -3,13 +3,14 @@ use Rattle.std.specs.Prelude.{Bool, true, false, Option, None, Some, is_some, �
 use mathlib.Core.List.{IsPrefix}
 use Rattle.capture_io.specs.declared.end.End.{End}
 use Rattle.presenter_ring.specs.declared.receiver.Pull.{Pull}
+use Rattle.avtp_base.specs.declared.failed.FaultPlace.{FaultPlace}
 use Rattle.avtp_base.specs.Files.{Open, Slots, left_in}
 use Rattle.listener.specs.Listening.{ListenState, StandsFor, is_closed, out}
 use Rattle.capture_io.specs.Source.{Sourcing, slot_of, to_do, EndsAfter, HasGiven}
 use Rattle.pcap_frames.specs.Capture.{Record}
 use Rattle.capture_io.specs.Formats.{records_in}
 use Rattle.sample_schedule.specs.declared.shown.Shown.{Shown}
-use Rattle.avtp_base.specs.Faults.{Rose}
+use Rattle.avtp_base.specs.Faults.{FailsAt}
 use Rattle.avtp_base.specs.States.{ShelfState}
 use Rattle.presenter_ring.specs.Pulls.{ending_of, items_of}
 use Rattle.capture_io.specs.declared.end.End.TheVariants as end
@@ -128,7 +129,7 @@ pub record IsSoundAt (stage : Stage) (source : Sourcing) (listener : ListenState
 -- ---- what was shown
 
 -- The reading of a file of these bytes has reached this stage, after these records.
-abbrev pub ReadTo : Stage → ℕ → List ℕ → Type 0 → Option (List ℕ) → Sourcing → List Record → Type 0
+abbrev pub ReadTo : Stage → ℕ → List ℕ → (FaultPlace → Type 0) → Option (List ℕ) → Sourcing → List Record → Type 0
 ReadTo Reading limit bytes fault remains source records = HasGiven limit bytes remains source records
 ReadTo (Showing how) limit bytes fault remains source records = EndsAfter limit bytes fault how records
 ReadTo (Ended how) limit bytes fault remains source records = EndsAfter limit bytes fault how records
@@ -136,7 +137,7 @@ ReadTo NoMemory limit bytes fault remains source records = ⊤
 
 -- The reading of a file of these bytes has reached this stage, and these items of its records were shown. At the stage
 -- `Ended`, these are all items that are shown of the records.
-pub record IsShown (stage : Stage) (limit : ℕ) (bytes : List ℕ) (fault : Type 0) (remains : Option (List ℕ)) (source : Sourcing) (listener : ListenState) (items : List Shown) : Type 0 where
+pub record IsShown (stage : Stage) (limit : ℕ) (bytes : List ℕ) (fault : FaultPlace → Type 0) (remains : Option (List ℕ)) (source : Sourcing) (listener : ListenState) (items : List Shown) : Type 0 where
   pub records : List Record
   pub first : IsPrefix records (records_in (take limit bytes))
   pub read : ReadTo stage limit bytes fault remains source records
@@ -151,7 +152,7 @@ pub record Shows (shelf shelf' : ShelfState)
   pub capture : ReadsCapture shelf shelf' (slot_of old_source) (slot_of source) (read_end stage)
   pub plan : listener.plan ≡ old_listener.plan
   pub shown : (limit : ℕ) (bytes : List ℕ) → HasGiven limit bytes (left_in shelf.slots (slot_of old_source)) old_source [] → StandsFor [] 0 old_listener → is_closed old_listener ≡ false
-      → IsShown stage limit bytes (Rose shelf.reading_faults shelf'.reading_faults) (left_in shelf'.slots (slot_of source)) source listener items
+      → IsShown stage limit bytes (FailsAt shelf.reading_faults shelf'.reading_faults) (left_in shelf'.slots (slot_of source)) source listener items
 
 -- The hearing moved on and showed `items`, after the items that it had shown earlier. The number of items that can
 -- still be shown fell by at least the number of `items`. The file is still open.

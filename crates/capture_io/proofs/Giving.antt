@@ -3,7 +3,8 @@ use Rattle.std.proofs.Common.{◌≡◌, ℕ, ◌-◌, ◌*◌, ◌+◌, ◌<◌
 use Rattle.std.specs.Prelude.{IfSome, IsSome, is_some, option_to_list}
 use Rattle.std.proofs.lemmas.List.{append-nil}
 use Rattle.avtp_base.specs.declared.refusal.Refusal.{Refusal}
-use Rattle.avtp_base.specs.Faults.{Rose}
+use Rattle.avtp_base.specs.Faults.{FailsAt, ReadingFaults}
+use Rattle.avtp_base.specs.declared.failed.FaultPlace.{FaultPlace}
 use Rattle.avtp_base.specs.Files.{left_in}
 use Rattle.avtp_base.specs.States.{ShelfState}
 use Rattle.pcap_frames.specs.Capture.{Record}
@@ -25,7 +26,7 @@ use Rattle.capture_io.proofs.Leaving.{reads_nothing}
 use Rattle.capture_io.proofs.Reader.{first_held, read_nothing}
 
 -- if the reader refused the buffered bytes, the reading ends at that refusal, after the released records
-pub refused_end : (limit : ℕ) (bytes : List ℕ) (remains : Option (List ℕ)) (source : Sourcing) (records : List Record) (fault : Type 0) (r : Refusal) (piece : List ℕ)
+pub refused_end : (limit : ℕ) (bytes : List ℕ) (remains : Option (List ℕ)) (source : Sourcing) (records : List Record) (fault : FaultPlace → Type 0) (r : Refusal) (piece : List ℕ)
     → HasFed limit bytes remains source records → piece ≡ source.pieces.waiting
     → ((bytes more : List ℕ) (records : List Record) → HasRead source.reader bytes records → RefusedAfter ((bytes ++ piece) ++ more) records r)
     → EndsAfter limit bytes fault (end.Refused r) records
@@ -43,13 +44,13 @@ all_given r prefix records x here free = here.all ∙ (ap (λ (h : Option Record
 
 -- If the reading of the file stopped at `halt`, the reading of the capture ends at `end_at halt x`, after the released
 -- records.
-pub stopped : (limit : ℕ) (bytes : List ℕ) (remains : Option (List ℕ)) (source : Sourcing) (records : List Record) (fault : Type 0) (halt : Stop) (x : Option Refusal) → (fed : HasFed limit bytes remains source records) → held_in source ≡ None
-    → IsContents limit bytes halt fed.prefix → (halt ≡ stop.Fault → fault) → EndsHere source.reader fed.prefix records x → EndsAfter limit bytes fault (end_at halt x) records
-stopped limit bytes remains source records fault stop.End x fed free is cause here =
+pub stopped : (limit : ℕ) (bytes : List ℕ) (remains : Option (List ℕ)) (source : Sourcing) (records : List Record) (fault : FaultPlace → Type 0) (halt : Stop) (x : Option Refusal) → (fed : HasFed limit bytes remains source records) → held_in source ≡ None
+    → IsContents limit bytes fault halt fed.prefix → EndsHere source.reader fed.prefix records x → EndsAfter limit bytes fault (end_at halt x) records
+stopped limit bytes remains source records fault stop.End x fed free is here =
     record { prefix = fed.prefix; ends = ends_whole limit bytes fed.prefix fault (at_end x) is.0 is.1 (ap at_end here.first); whole = all_given source.reader fed.prefix records x here free }
-stopped limit bytes remains source records fault stop.Fault x fed free is cause here =
-    record { prefix = fed.prefix; ends = (cause refl, (is.0, is.1, is.2, fed.read.uncertain fed.accepted)); whole = all_given source.reader fed.prefix records x here free }
-stopped limit bytes remains source records fault stop.Limit x fed free is cause here =
+stopped limit bytes remains source records fault stop.Fault x fed free is here =
+    record { prefix = fed.prefix; ends = (is.0, is.1, is.2, is.3, fed.read.uncertain fed.accepted); whole = all_given source.reader fed.prefix records x here free }
+stopped limit bytes remains source records fault stop.Limit x fed free is here =
     record { prefix = fed.prefix; ends = ends_limit limit bytes fed.prefix fault is.0 (sym is.1) (fed.read.uncertain fed.accepted); whole = all_given source.reader fed.prefix records x here free }
 
 -- ---- delivered records
@@ -99,19 +100,16 @@ holds_next limit bytes remains source records some going fed = holds_next_by lim
 -- ---- reading on
 
 pub ended_so : {before after : ShelfState} {old new : Sourcing} {result : Option End} (how : End) → result ≡ Some how
-    → ((limit : ℕ) (bytes : List ℕ) (records : List Record) → HasFed limit bytes (remains_of before old) old records → EndsAfter limit bytes (Rose before.reading_faults after.reading_faults) how records)
+    → ((limit : ℕ) (bytes : List ℕ) (records : List Record) → HasFed limit bytes (remains_of before old) old records → EndsAfter limit bytes (FailsAt before.reading_faults after.reading_faults) how records)
     → CountsFault None (Some how) before.reading_faults after.reading_faults → ReadsSlot before after (slot_of old) (slot_of new) → ReadsOn before after old new result
 ended_so {before} {after} {old} {new} how is ends counted reads =
     subst (ReadsOn before after old new) (sym is) (record { more = λ none. absurd cc; ends = ends; less = λ none. absurd cc; counted = counted; reads = reads })
 
-pub stop_counted : (before after : ℕ) (halt : Stop) (x : Option Refusal) → CountsStop (Some halt) before after → CountsFault None (Some (end_at halt x)) before after
+pub stop_counted : (before after : ReadingFaults) (halt : Stop) (x : Option Refusal) → CountsStop (Some halt) before after → CountsFault None (Some (end_at halt x)) before after
 stop_counted before after stop.End None counted = counted
 stop_counted before after stop.End (Some refusal) counted = counted
 stop_counted before after stop.Fault x counted = counted
 stop_counted before after stop.Limit x counted = counted
-
-pub stop_rose : (before after : ℕ) (halt : Stop) → CountsStop (Some halt) before after → halt ≡ stop.Fault → Rose before after
-stop_rose before after halt counted is = subst (λ (h : Stop). CountsStop (Some h) before after) is counted
 
 -- ---- the next record
 

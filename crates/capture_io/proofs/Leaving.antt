@@ -1,6 +1,7 @@
 -- What two successive calls together leave unchanged on a shelf.
-use Rattle.std.proofs.Common.{◌≡◌, ℕ, List, [], ◌∷◌, ◌++◌, refl, sym, subst, ◌∙◌, arith, append_assoc, append-nil}
+use Rattle.std.proofs.Common.{◌≡◌, ℕ, List, [], ◌∷◌, ◌++◌, refl, sym, ap, subst, ◌∙◌, arith, append_assoc, append-nil}
 use Rattle.std.specs.Prelude.{IsSome, option_map}
+use Rattle.avtp_base.specs.Faults.{ReadingFaults}
 use Rattle.avtp_base.specs.Files.{KeepsOthers, file_of}
 use Rattle.avtp_base.specs.States.{ShelfState, WasAsked}
 use Rattle.avtp_base.proofs.Files.{KeepsFiles-refl, KeepsFiles-trans, KeepsOthers-closed, KeepsOthers-trans, named_as}
@@ -70,7 +71,7 @@ pub only_reads_closed : (s t u : ShelfState) (name : List ℕ) (k : ℕ) → Ope
 only_reads_closed s t u name k first second = record {
   files = KeepsFiles-trans s.files t.files u.files first.files second.files;
   slots = KeepsOthers-closed s.slots t.slots u.slots k first.free first.others second.others second.ended;
-  reading = omega (arith, first.reading, second.reading);
+  reading = omega (arith, first.reading, ap (λ (faults : ReadingFaults). faults.count) second.reading);
   writing = second.writing ∙ first.writing;
   asked = λ earlier stands. second.asked (earlier ++ name ∷ []) (first.asked earlier stands);
 }

@@ -2,7 +2,7 @@
 use Rattle.std.specs.Prelude.{◌≡◌, ℕ, ◌≤◌, List, [], ◌∷◌, None, Some, IfOk, IsErrOf, IsSome, OnErr, Result, option_map}
 use Rattle.avtp_base.specs.declared.failed.OpenFault.{OpenFault}
 use Rattle.avtp_base.specs.declared.failed.OpenFault.TheVariants as open_fault
-use Rattle.avtp_base.specs.Faults.{IsOpenCounted}
+use Rattle.avtp_base.specs.Faults.{IsOpeningCounted}
 use Rattle.avtp_base.specs.Files.{IsMissing, KeepsFiles, KeepsOthers, KeepsSlots, file_of, name_in}
 use Rattle.avtp_base.specs.States.{Asks, AsksNothing, ShelfState}
 
@@ -11,7 +11,7 @@ use Rattle.avtp_base.specs.States.{Asks, AsksNothing, ShelfState}
 pub record OnlyReads (before after : ShelfState) (names : List (List ℕ)) : Type 0 where
   pub files : KeepsFiles before.files after.files
   pub slots : KeepsSlots before.slots after.slots
-  pub reading : before.reading_faults ≤ after.reading_faults
+  pub reading : before.reading_faults.count ≤ after.reading_faults.count
   pub writing : after.writing_faults ≡ before.writing_faults
   pub asked : Asks names before after
 
@@ -25,7 +25,7 @@ pub record ReadsSlot (before after : ShelfState) (k now : ℕ) : Type 0 where
   pub live : IsSome (after.slots k)
   pub same : option_map file_of (after.slots k) ≡ option_map file_of (before.slots k)
   pub others : KeepsOthers before.slots after.slots k
-  pub reading : before.reading_faults ≤ after.reading_faults
+  pub reading : before.reading_faults.count ≤ after.reading_faults.count
   pub writing : after.writing_faults ≡ before.writing_faults
   pub asked : AsksNothing before after
 
@@ -38,15 +38,15 @@ pub record OpensSlot (before after : ShelfState) (name : List ℕ) (k : ℕ) : T
   pub live : IsSome (after.slots k)
   pub named : IsSome before.files → name_in after.slots k ≡ Some name
   pub others : KeepsOthers before.slots after.slots k
-  pub reading : before.reading_faults ≤ after.reading_faults
+  pub reading : before.reading_faults.count ≤ after.reading_faults.count
   pub writing : after.writing_faults ≡ before.writing_faults
   pub asked : Asks (name ∷ []) before after
 
 -- If the result is `Ok(x)`, the file `name` was opened in the slot with the number `slot x`. If the result is `Err`,
 -- the file was not opened, and no file or slot changed. `Missing` means that the shelf shows its files and none of them
--- has the name. If the result is `Failed`, the count of reading faults rose.
+-- has the name. If the result is `Failed`, one more reading fault was counted, at the opening.
 pub record TriesOpen {T : Type 0} (slot : T → ℕ) (before after : ShelfState) (name : List ℕ) (result : Result T OpenFault) : Type 0 where
   pub opened : IfOk result (λ file. OpensSlot before after name (slot file))
   pub refused : OnErr result (OnlyReads before after (name ∷ []))
   pub missing : IsErrOf result open_fault.Missing → IsMissing before.files name
-  pub counted : IsOpenCounted before.reading_faults after.reading_faults result
+  pub counted : IsOpeningCounted before.reading_faults after.reading_faults result

@@ -1,6 +1,7 @@
 -- The records of a capture, one after the other.
 use Rattle.std.specs.Prelude.{◌≡◌, ◌++◌, ◌+◌, ◌*◌, ◌<◌, ◌≤◌, ℕ, Bool, true, false, List, [], ◌∷◌, length, IfOk, IfSome, IsSome, Option, Some, None, Result, option_to_list}
-use Rattle.avtp_base.specs.Faults.{Rose}
+use Rattle.avtp_base.specs.Faults.{FailsAt}
+use Rattle.avtp_base.specs.declared.failed.FaultPlace.{FaultPlace}
 use Rattle.avtp_base.specs.declared.failed.OpenFault.{OpenFault}
 use Rattle.avtp_base.specs.Files.{Files, left_in}
 use Rattle.avtp_base.specs.States.{ShelfState}
@@ -54,7 +55,7 @@ abbrev pub HasGivenOf : ℕ → List ℕ → ShelfState → Sourcing → List Re
 HasGivenOf limit bytes shelf source records = HasGiven limit bytes (remains_of shelf source) source records
 
 -- The reading of a file with these bytes ends at `how`, and these are the records before that end.
-pub record EndsAfter (limit : ℕ) (bytes : List ℕ) (fault : Type 0) (how : End) (records : List Record) : Type 0 where
+pub record EndsAfter (limit : ℕ) (bytes : List ℕ) (fault : FaultPlace → Type 0) (how : End) (records : List Record) : Type 0 where
   pub prefix : List ℕ
   pub ends : EndsAt limit (Some bytes) fault how prefix
   pub whole : records_in prefix ≡ records
@@ -72,12 +73,12 @@ pub record OpensSource (before after : ShelfState) (limit : ℕ) (name : List �
   pub tries : TriesOpen slot_of before after name result
 
 -- If the result is `None`, the next record was read and is held now. If `result` is not `None`, the reading ended after
--- the delivered records, and `result` is how it ended. If a fault ended the reading, the count of reading faults rose.
+-- the delivered records, and `result` is how it ended. If a fault ended the reading, one more reading fault was counted.
 -- If the reading had ended before the call, the call returns the same end again.
 pub record GivesNext (before after : ShelfState) (old new : Sourcing) (result : Option End) : Type 0 where
   pub given : result ≡ None → (limit : ℕ) (bytes : List ℕ) (records : List Record) → HasGivenOf limit bytes before old records
       → (next : Record) × (held_in new ≡ Some next) × HasGivenOf limit bytes after new (records ++ next ∷ [])
-  pub ends : IfSome result (λ how. (limit : ℕ) (bytes : List ℕ) (records : List Record) → HasGivenOf limit bytes before old records → EndsAfter limit bytes (Rose before.reading_faults after.reading_faults) how records)
+  pub ends : IfSome result (λ how. (limit : ℕ) (bytes : List ℕ) (records : List Record) → HasGivenOf limit bytes before old records → EndsAfter limit bytes (FailsAt before.reading_faults after.reading_faults) how records)
   pub held : result ≡ None → IsSome (held_in new)
   pub less : result ≡ None → to_do new < to_do old
   pub ended : new.ended ≡ result

@@ -2,9 +2,11 @@
 use Rattle.std.proofs.Common.{◌≡◌, ℕ, ◌+◌, List, [], ◌∷◌, ◌++◌, map, refl, ap, ◌∙◌, append-nil, sym, append_assoc, length, Option, subst, Ok, arith, length-append, take, Result, Some, Bool, true, false, if◌then◌else◌, inl, inr, None, ◌≤◌, Err}
 use Rattle.std.specs.Prelude.{flat_map, ◌⊎◌, ◌==◌, IfOk}
 use Rattle.std.proofs.lemmas.Grind.{flat_map-append}
+use Rattle.avtp_base.specs.Faults.{ReadingFaults}
 use Rattle.pcap_frames.specs.Capture.{Record}
 use Rattle.sequence_track.specs.declared.seen.Seen.{Seen}
 use Rattle.avtp_text.specs.Listen.{capture_line}
+use Rattle.avtp_base.specs.declared.failed.FaultPlace.{FaultPlace}
 use Rattle.avtp_base.specs.Told.{Appends, Keeps}
 use Rattle.sequence_track.specs.declared.stream.StreamKey.{StreamKey}
 use Rattle.sequence_track.specs.declared.stream.StreamState.{StreamState}
@@ -126,7 +128,7 @@ name_checked {before} {now} limit bytes name prefix = prefix_before before now (
 
 -- ---- what `check` yields for a file
 
-pub check_told : {h h' : SinkState} {w w' : List ℕ} {result : Result Status Failed} (limit : ℕ) (name bytes : List ℕ) (fault : Type 0) (total : Total) (before : Option (List ℕ)) → HasChecked limit name bytes fault total before (written h.held w)
+pub check_told : {h h' : SinkState} {w w' : List ℕ} {result : Result Status Failed} (limit : ℕ) (name bytes : List ℕ) (fault : FaultPlace → Type 0) (total : Total) (before : Option (List ℕ)) → HasChecked limit name bytes fault total before (written h.held w)
     → EndsWith (check_status total.findings total.end) h h' w w' result (total_line limit total.frames total.streams total.findings total.end) → IsReadAndTold (check_report limit name) HandsNothing limit bytes fault total.end before (written h'.held w') result
 check_told limit name bytes fault total before c ends = record {
   records = c.records;
@@ -142,7 +144,7 @@ found_done : (found : ℕ) → (check_status found end.Whole ≡ status.Done) �
 found_done found =
     elim (found == 0) as (λ (b : Bool). ((if b then status.Done else status.Findings) ≡ status.Done) ⊎ ((if b then status.Done else status.Findings) ≡ status.Findings)) [ true ↦ inl refl | false ↦ inr refl ]
 
-checks_fault : (found : ℕ) (how : End) (before after : ℕ) → CountsFault None (Some how) before after → TellsFault (check_status found how) before after
+checks_fault : (found : ℕ) (how : End) (before after : ReadingFaults) → CountsFault None (Some how) before after → TellsFault (check_status found how) before after
 checks_fault found end.Whole before after counts =
     inl (
       elim (found_done found) [
@@ -155,7 +157,7 @@ checks_fault found (end.Refused refusal) before after counts = inl (λ e. cc, co
 checks_fault found end.ReadFault before after counts = inr (refl, counts)
 checks_fault found end.Limit before after counts = inl (λ e. cc, counts)
 
-pub counts_checked : {before after : ℕ} {names : List (List ℕ)} {files : Option Files} (found : ℕ) (how : End) (result : Result Status Failed) → before ≤ after → CountsFault None (Some how) before after
+pub counts_checked : {before after : ReadingFaults} {names : List (List ℕ)} {files : Option Files} (found : ℕ) (how : End) (result : Result Status Failed) → before.count ≤ after.count → CountsFault None (Some how) before after
     → IfOk result (λ s. s ≡ check_status found how) → CountsReading names files before after result
 counts_checked {before} {after} found how result falls counts is = counts_by (check_status found how) result falls (checks_fault found how before after counts) is
 

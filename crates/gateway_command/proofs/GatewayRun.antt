@@ -1,10 +1,12 @@
 -- The outcomes of `gateway`.
-use Rattle.std.proofs.Common.{zero, suc, ◌≡◌, ℕ, List, take, Some, subst, Option, None, refl, sym, inl, ◌≢◌, [], ◌∷◌, inr, ◌∙◌, ◌++◌, ap, Bool, true, false, length, arith, ◌^◌, ◌<◌}
+use Rattle.std.proofs.Common.{zero, suc, ◌≡◌, ℕ, List, take, Some, subst, Option, None, refl, sym, inl, ◌≢◌, [], ◌∷◌, inr, ◌∙◌, ◌++◌, ap, Bool, true, false, length, length-append, arith, ◌^◌, ◌<◌}
 use Rattle.std.specs.Prelude.{◌==◌, if◌then◌else◌, IfSome}
 use Rattle.std.proofs.lemmas.Bool.{eqb-true}
 use Rattle.std.specs.List.{AllByRecursion}
 use Rattle.capture_io.specs.declared.end.End.{End}
 use Rattle.capture_io.specs.Ends.{EndsAt, end_of}
+use Rattle.avtp_base.specs.declared.failed.FaultPlace.TheVariants as fault_place
+use Rattle.avtp_base.specs.declared.failed.FaultPlace.{FaultPlace}
 use Rattle.avtp_base.specs.Files.{Files}
 use Rattle.capture_io.specs.Formats.{records_in}
 use Rattle.am824_gateway.specs.Scan.{FaultAt, IsShape}
@@ -28,12 +30,13 @@ use Rattle.run_report.proofs.OneFile.{stopped_at, stops_here}
 use Rattle.capture_io.proofs.Formats.{short_certain}
 use Rattle.avtp_text.specs.Notices.{read_fault_line}
 use Rattle.run_report.specs.Halt.{Halt, CanHalt, CanStop, no_halt, not_opened, stopped_after}
-use Rattle.run_report.specs.RunReport.{ends_unread}
+use Rattle.run_report.specs.RunReport.{ends_unread, RunReport}
 use Rattle.run_report.specs.Yield.{says}
 use Rattle.run_report.specs.Listener.{plan_of}
 use Rattle.run_report.specs.declared.status.Status.TheVariants as status
-use Rattle.gateway_command.specs.Gateway.{CanTurn, GatewayYields, again_end, batches_by, fault_in, fault_line, gateway_by, gateway_report, read_again, records_of, shape_asked, turned_by, skipped_at, skips_after, turned_status, KeepsInput, format_of, skips_in, turned_capture}
+use Rattle.gateway_command.specs.Gateway.{CanTurn, GatewayYields, again_end, batches_by, fault_in, fault_line, gateway_by, gateway_report, read_again, records_of, shape_asked, turned_by, skipped_at, skips_after, turned_status, KeepsInput, format_of, skips_in, turned_capture, FailsAgain}
 use Rattle.gateway_command.proofs.Silent.{silent}
+use Rattle.capture_io.proofs.Ending.{ends_weaker}
 
 -- ---- the possible outcomes
 
@@ -42,17 +45,17 @@ unread_is asked None = refl
 unread_is asked (Some bytes) = refl
 
 -- IN was not opened
-pub unopened : (asked : Turning) (files : Files) (fault : Type 0) → IsUnopened files fault asked.input → GatewayYields asked files fault (asked.input ∷ []) status.ReadFault (says read_fault_line) None
+pub unopened : (asked : Turning) (files : Files) (fault : FaultPlace → Type 0) → IsUnopened files fault asked.input → GatewayYields asked files fault (asked.input ∷ []) status.ReadFault (says read_fault_line) None
 unopened asked files fault (inl is) = (no_halt, tt, rw is refl)
 unopened asked files fault (inr f) = (not_opened zero, f, sym (unread_is asked (files asked.input)))
 
 -- a record of IN cannot be converted
-pub faulty : (asked : Turning) (files : Files) (fault : Type 0) (bytes : List ℕ) (at : FaultAt) → files asked.input ≡ Some bytes → fault_in asked (records_of asked bytes) ≡ Some at
+pub faulty : (asked : Turning) (files : Files) (fault : FaultPlace → Type 0) (bytes : List ℕ) (at : FaultAt) → files asked.input ≡ Some bytes → fault_in asked (records_of asked bytes) ≡ Some at
     → GatewayYields asked files fault (asked.input ∷ []) status.TalkInput (says (fault_line at)) None
 faulty asked files fault bytes at is found = (no_halt, tt, rw (is, found) refl)
 
 -- the scan was cut short, and each scanned record can be converted
-pub cut : (asked : Turning) (files : Files) (fault : Type 0) (bytes prefix : List ℕ) (how : End) → files asked.input ≡ Some bytes → EndsAt asked.listener.limit (Some bytes) fault how prefix → how ≢ end.Whole → fault_in asked (records_in prefix) ≡ None
+pub cut : (asked : Turning) (files : Files) (fault : FaultPlace → Type 0) (bytes prefix : List ℕ) (how : End) → files asked.input ≡ Some bytes → EndsAt asked.listener.limit (Some bytes) fault how prefix → how ≢ end.Whole → fault_in asked (records_in prefix) ≡ None
     → GatewayYields asked files fault (asked.input ∷ []) (status_of how) (says (side_line asked.listener.limit how)) None
 cut asked files fault bytes prefix end.Whole is ends other clean = absurd (other refl)
 cut asked files fault bytes prefix (end.Refused refusal) is ends other clean =
@@ -64,20 +67,29 @@ cut asked files fault bytes prefix end.Limit is ends other clean =
 cut asked files fault bytes prefix end.ReadFault is ends other clean =
     let at = stopped_at asked.listener.limit bytes prefix fault ends in
     let good : fault_in asked (records_in (take (length prefix) bytes)) ≡ None = subst (λ (p : List ℕ). fault_in asked (records_in p) ≡ None) at.0 clean in
-    (stopped_after zero (length prefix), (at.1, rw is at.2), rw (is, good) refl)
+    (stopped_after zero (length prefix), rw is at.1, rw (is, good) refl)
+
+left_same : (a b : ℕ) → fault_place.Reading a ≡ fault_place.Reading b → a ≡ b
+left_same a b same = cc
+
+none_before : (bytes prefix rest : List ℕ) → bytes ≡ prefix ++ rest → length rest ≡ length bytes → prefix ≡ []
+none_before bytes [] rest split same = refl
+none_before bytes (x ∷ prefix) rest split same = absurd (omega (arith, same, ap length split, length-append (x ∷ prefix) rest))
 
 -- IN was scanned, OUT was made, and IN was read again
-pub turned : (asked : Turning) (files : Files) (fault : Type 0) (bytes prefix : List ℕ) (how : End) → files asked.input ≡ Some bytes → CanTurn asked bytes → EndsAt asked.listener.limit (Some bytes) fault how prefix
+pub turned : (asked : Turning) (files : Files) (fault : FaultPlace → Type 0) (bytes prefix : List ℕ) (how : End) → files asked.input ≡ Some bytes → CanTurn asked bytes → EndsAt asked.listener.limit (Some bytes) (FailsAgain bytes fault) how prefix
     → (halt : Halt) × CanHalt asked.listener.limit (asked.input ∷ asked.input ∷ []) files fault halt × (turned_by asked (shape_asked asked (records_of asked bytes)) (batches_by asked (records_in prefix) how) how ≡ gateway_report asked (files asked.input) halt)
 turned asked files fault bytes prefix end.Whole is can ends = (no_halt, tt, rw (is, can.none, can.whole, ends.1) refl)
 turned asked files fault bytes prefix (end.Refused refusal) is can ends = absurd (let e : end.Refused refusal ≡ end.Whole = ends.0 ∙ can.whole in cc)
 turned asked files fault bytes prefix end.Limit is can ends = absurd (let e : end.Limit ≡ end.Whole = ends.0 ∙ can.whole in cc)
-turned asked files fault bytes prefix end.ReadFault is can ends =
-    let at = stopped_at asked.listener.limit bytes prefix fault ends in (
-      stopped_after (suc zero) (length prefix),
-      (at.1, rw is at.2),
-      rw (is, can.none, can.whole) (ap (λ (p : List ℕ). turned_by asked (shape_asked asked (records_of asked bytes)) (batches_by asked (records_in p) end.ReadFault) end.ReadFault) at.0),
-    )
+turned asked files fault bytes prefix end.ReadFault is can (rest, split, fails, within, certain) =
+    let by : List ℕ → RunReport = λ (p : List ℕ). turned_by asked (shape_asked asked (records_of asked bytes)) (batches_by asked (records_in p) end.ReadFault) end.ReadFault in
+    elim fails [
+      | inl here ↦
+          let at = stopped_at asked.listener.limit bytes prefix fault (rest, split, here, within, certain) in
+          (stopped_after (suc zero) (length prefix), rw is at.1, rw (is, can.none, can.whole) (ap by at.0))
+      | inr opening ↦ (not_opened (suc zero), opening.0, rw (is, can.none, can.whole) (ap by (none_before bytes prefix rest split (left_same (length rest) (length bytes) opening.1))))
+    ]
 
 -- ---- what the capture keeps
 
@@ -114,7 +126,7 @@ begin_in_time asked records end.ReadFault = due_in_time (plan_of asked.listener)
 begin_in_time asked records end.Limit = due_in_time (plan_of asked.listener) records
 
 -- what is kept, if IN can be converted and was read again
-keeps_turned : (asked : Turning) (files : Files) (fault : Type 0) (bytes prefix capture : List ℕ) (how : End) → asked.id < 2 ^ 64 → files asked.input ≡ Some bytes → CanTurn asked bytes → EndsAt asked.listener.limit (Some bytes) fault how prefix
+keeps_turned : (asked : Turning) (files : Files) (fault : FaultPlace → Type 0) (bytes prefix capture : List ℕ) (how : End) → asked.id < 2 ^ 64 → files asked.input ≡ Some bytes → CanTurn asked bytes → EndsAt asked.listener.limit (Some bytes) (FailsAgain bytes fault) how prefix
     → let made = turned_by asked (shape_asked asked (records_of asked bytes)) (batches_by asked (records_in prefix) how) how in made.made ≡ Some capture → KeepsInput asked files fault made.ended capture
 keeps_turned asked files fault bytes prefix capture how small told can ends some =
     let shape = shape_asked asked (records_of asked bytes) in
@@ -132,8 +144,8 @@ keeps_turned asked files fault bytes prefix capture how small told can ends some
       all = λ done. skips_none (format_of asked.to) shape batches (done_none (skips_in asked shape batches) how done);
     }
 
-keeps_by : (asked : Turning) (files : Files) (fault : Type 0) (bytes capture : List ℕ) (halt : Halt) (at : Option FaultAt) (how : End) → asked.id < 2 ^ 64 → files asked.input ≡ Some bytes → fault_in asked (records_of asked bytes) ≡ at → end_of asked.listener.limit bytes ≡ how
-    → (how ≡ end.Whole → EndsAt asked.listener.limit (Some bytes) fault (again_end halt) (read_again asked bytes halt)) → (gateway_by asked bytes halt at how).made ≡ Some capture → KeepsInput asked files fault (gateway_by asked bytes halt at how).ended capture
+keeps_by : (asked : Turning) (files : Files) (fault : FaultPlace → Type 0) (bytes capture : List ℕ) (halt : Halt) (at : Option FaultAt) (how : End) → asked.id < 2 ^ 64 → files asked.input ≡ Some bytes → fault_in asked (records_of asked bytes) ≡ at → end_of asked.listener.limit bytes ≡ how
+    → (how ≡ end.Whole → EndsAt asked.listener.limit (Some bytes) (FailsAgain bytes fault) (again_end halt) (read_again asked bytes halt)) → (gateway_by asked bytes halt at how).made ≡ Some capture → KeepsInput asked files fault (gateway_by asked bytes halt at how).ended capture
 keeps_by asked files fault bytes capture halt (Some at) how small told found ends again some = absurd cc
 keeps_by asked files fault bytes capture halt None end.Whole small told none ends again some = keeps_turned asked files fault bytes (read_again asked bytes halt) capture (again_end halt) small told (record { whole = ends; none = none }) (again refl) some
 keeps_by asked files fault bytes capture halt None (end.Refused refusal) small told none ends again some = absurd cc
@@ -144,21 +156,22 @@ none_made : (asked : Turning) (bytes capture : List ℕ) (halt : Halt) (at : Opt
 none_made asked bytes capture halt None some = absurd cc
 none_made asked bytes capture halt (Some at) some = absurd cc
 
-keeps_told : (asked : Turning) (files : Files) (fault : Type 0) (capture : List ℕ) (halt : Halt) (told : Option (List ℕ)) → asked.id < 2 ^ 64 → files asked.input ≡ told → CanHalt asked.listener.limit (asked.input ∷ asked.input ∷ []) files fault halt
+keeps_told : (asked : Turning) (files : Files) (fault : FaultPlace → Type 0) (capture : List ℕ) (halt : Halt) (told : Option (List ℕ)) → asked.id < 2 ^ 64 → files asked.input ≡ told → CanHalt asked.listener.limit (asked.input ∷ asked.input ∷ []) files fault halt
     → (gateway_report asked told halt).made ≡ Some capture → KeepsInput asked files fault (gateway_report asked told halt).ended capture
 keeps_told asked files fault capture halt None small is can some = absurd cc
 keeps_told asked files fault capture no_halt (Some bytes) small is can some =
     keeps_by asked files fault bytes capture no_halt (fault_in asked (records_of asked bytes)) (end_of asked.listener.limit bytes) small is refl refl (λ whole. (sym whole, refl)) some
 keeps_told asked files fault capture (not_opened zero) (Some bytes) small is can some = absurd cc
 keeps_told asked files fault capture (not_opened (suc zero)) (Some bytes) small is can some =
-    keeps_by asked files fault bytes capture (not_opened 1) (fault_in asked (records_of asked bytes)) (end_of asked.listener.limit bytes) small is refl refl (λ whole. (can, (bytes, refl, omega arith, short_certain [] (omega arith)))) some
+    keeps_by asked files fault bytes capture (not_opened 1) (fault_in asked (records_of asked bytes)) (end_of asked.listener.limit bytes) small is refl refl (λ whole. (bytes, refl, inr (can, refl), omega arith, short_certain [] (omega arith))) some
 keeps_told asked files fault capture (not_opened (suc (suc place))) (Some bytes) small is can some = absurd can
 keeps_told asked files fault capture (stopped_after zero after) (Some bytes) small is can some = absurd (none_made asked bytes capture (stopped_after zero after) (fault_in asked (records_in (take after bytes))) some)
 keeps_told asked files fault capture (stopped_after (suc zero) after) (Some bytes) small is can some =
     keeps_by asked files fault bytes capture (stopped_after 1 after) (fault_in asked (records_of asked bytes)) (end_of asked.listener.limit bytes) small is refl refl
-    (λ whole. stops_here asked.listener.limit bytes after fault can.0 (subst (λ (o : Option (List ℕ)). CanStop asked.listener.limit o after) is can.1)) some
+    (λ whole. ends_weaker asked.listener.limit (Some bytes) fault (FailsAgain bytes fault) end.ReadFault (take after bytes) (λ place. inl)
+    (stops_here asked.listener.limit bytes after fault (subst (λ (o : Option (List ℕ)). CanStop asked.listener.limit o fault after) is can))) some
 keeps_told asked files fault capture (stopped_after (suc (suc place)) after) (Some bytes) small is can some = absurd can
 
-pub keeps_input : (asked : Turning) (files : Files) (fault : Type 0) (halt : Halt) (capture : List ℕ) → asked.id < 2 ^ 64 → CanHalt asked.listener.limit (asked.input ∷ asked.input ∷ []) files fault halt
+pub keeps_input : (asked : Turning) (files : Files) (fault : FaultPlace → Type 0) (halt : Halt) (capture : List ℕ) → asked.id < 2 ^ 64 → CanHalt asked.listener.limit (asked.input ∷ asked.input ∷ []) files fault halt
     → (gateway_report asked (files asked.input) halt).made ≡ Some capture → KeepsInput asked files fault (gateway_report asked (files asked.input) halt).ended capture
 keeps_input asked files fault halt capture small can some = keeps_told asked files fault capture halt (files asked.input) small refl can some

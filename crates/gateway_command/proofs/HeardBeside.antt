@@ -3,8 +3,9 @@ use Rattle.std.proofs.Common.{◌≡◌, ℕ, ◌≤◌, Option, None, Result, s
 use Rattle.std.specs.Prelude.{◌≢◌, IsSome, option_map, ◌==◌, if◌then◌else◌, option_and_then, count_by}
 use Rattle.std.proofs.lemmas.Bool.Decides.{nat_tests, eqb_tells}
 use mathlib.Core.List.{IsPrefix}
+use Rattle.avtp_base.specs.declared.failed.FaultPlace.{FaultPlace}
 use Rattle.avtp_base.specs.declared.failed.Failed.{Failed}
-use Rattle.avtp_base.specs.Faults.{IsCounted, Rose}
+use Rattle.avtp_base.specs.Faults.{FailsAt, IsCounted, ReadingFaults}
 use Rattle.avtp_base.specs.Files.{file_of, left_in, name_in, KeepsFiles, KeepsOthers, Open}
 use Rattle.avtp_base.specs.States.{AsksNothing, ShelfState}
 use Rattle.avtp_files.specs.ShelfCalls.{IsMadeIn}
@@ -28,6 +29,7 @@ use Rattle.capture_io.specs.Formats.{records_in}
 use Rattle.listener.proofs.Fed.{prefix_twice}
 use Rattle.capture_io.specs.declared.end.End.TheVariants as end
 use Rattle.run_report.specs.Reading.{ReadsCapture}
+use Rattle.run_report.proofs.Leaving.{same_count}
 use Rattle.capture_hearing.specs.declared.hearing.Stage.{Stage}
 use Rattle.capture_hearing.specs.declared.hearing.Stage.TheVariants.{Reading}
 use Rattle.capture_hearing.specs.Hearing.{read_end, GoesOn, Shows, IsShown, closed_at}
@@ -45,7 +47,7 @@ pub record ReadsAndWrites (s t : ShelfState) (k now w : ℕ) (how : Option End) 
   pub made : IsMadeIn t.slots w
   pub same : (j : ℕ) → option_map file_of (t.slots j) ≡ option_map file_of (s.slots j)
   pub left : (j : ℕ) → j ≢ k → name_in s.slots j ≢ name_in s.slots w → left_in t.slots j ≡ left_in s.slots j
-  pub reading : s.reading_faults ≤ t.reading_faults
+  pub reading : s.reading_faults.count ≤ t.reading_faults.count
   pub counted : CountsFault None how s.reading_faults t.reading_faults
   pub writing : IsCounted s.writing_faults t.writing_faults done
   pub asked : AsksNothing s t
@@ -95,7 +97,7 @@ module _ {s t u : ShelfState} {k now w : ℕ} {how : Option End} {old new : Writ
     made = subst (IsMadeIn u.slots) slot writes.made;
     same = λ j. writes.slots.same j ∙ beside.same j;
     left = λ j other apart. writes.slots.left j (still_apart beside old.slot slot j apart) ∙ beside.left j other apart;
-    reading = omega (arith, beside.reading, writes.reading);
+    reading = omega (arith, beside.reading, same_count writes.reading);
     counted = subst (CountsFault None how s.reading_faults) (sym writes.reading) beside.counted;
     writing = subst (λ (n : ℕ). IsCounted {T = Unit} n u.writing_faults done) beside.writing.ok writes.counted;
     asked = λ names was. writes.asked names (beside.asked names was);
@@ -180,7 +182,7 @@ module _ {s t u : ShelfState} (first : Sourcing) {a b : Sourcing} {l m : ListenS
 -- is read.
 pub record IsHeard (s t : ShelfState) (first source : Sourcing) (fresh listener : ListenState) (stage : Stage) (items : List Shown) : Type 0 where
   pub shown : (limit : ℕ) (bytes : List ℕ) → HasGiven limit bytes (left_in s.slots (slot_of first)) first [] → StandsFor [] 0 fresh → is_closed fresh ≡ false
-      → IsShown stage limit bytes (Rose s.reading_faults t.reading_faults) (left_in t.slots (slot_of source)) source listener items
+      → IsShown stage limit bytes (FailsAt s.reading_faults t.reading_faults) (left_in t.slots (slot_of source)) source listener items
 
 pub heard_none : (s : ShelfState) (source : Sourcing) (listener : ListenState) (stage : Stage) → IsSome (s.slots (slot_of source)) → stage ≡ Reading → IsHeard s s source source listener listener stage []
 heard_none s source listener stage live is = record { shown = (shows_none s source listener stage live is).shown }
@@ -202,8 +204,8 @@ pub heard_still : {s t u : ShelfState} {first source : Sourcing} {fresh listener
     → IsHeard s t first source fresh listener stage items → IsHeard s u first source fresh listener stage items
 heard_still {s} {t} {u} {source = source} {listener = listener} {stage} {items} quiet same heard = record {
   shown = λ limit bytes given stands going.
-      subst (λ (n : ℕ). IsShown stage limit bytes (Rose s.reading_faults n) (left_in u.slots (slot_of source)) source listener items) (sym quiet)
-      (subst (λ (o : Option (List ℕ)). IsShown stage limit bytes (Rose s.reading_faults t.reading_faults) o source listener items) (sym same) (heard.shown limit bytes given stands going));
+      subst (λ (faults : ReadingFaults). IsShown stage limit bytes (FailsAt s.reading_faults faults) (left_in u.slots (slot_of source)) source listener items) (sym quiet)
+      (subst (λ (o : Option (List ℕ)). IsShown stage limit bytes (FailsAt s.reading_faults t.reading_faults) o source listener items) (sym same) (heard.shown limit bytes given stands going));
 }
 
 -- ---- batches
@@ -233,7 +235,7 @@ presented_first : (items all : List Shown) → IsPrefix items all → IsPrefix (
 presented_first items all first = (presented_of first.0, sym (presented-append items first.0) ∙ ap presented_of first.1)
 
 -- the batches that were presented so far are a prefix of all batches
-pub batches_within : (plan : ListenPlan) (stage : Stage) (limit : ℕ) (bytes : List ℕ) (fault : Type 0) (remains : Option (List ℕ)) (source : Sourcing) (listener : ListenState) (items : List Shown) → listener.plan ≡ plan → is_closed listener ≡ closed_at stage
+pub batches_within : (plan : ListenPlan) (stage : Stage) (limit : ℕ) (bytes : List ℕ) (fault : FaultPlace → Type 0) (remains : Option (List ℕ)) (source : Sourcing) (listener : ListenState) (items : List Shown) → listener.plan ≡ plan → is_closed listener ≡ closed_at stage
     → IsShown stage limit bytes fault remains source listener items → IsPrefix (presented_of items) (presented_of (shown_by plan (records_in (take limit bytes)) end.Whole))
 batches_within plan stage limit bytes fault remains source listener items is closed shown =
     let all : List Record = records_in (take limit bytes) in

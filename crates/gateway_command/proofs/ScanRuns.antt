@@ -1,8 +1,9 @@
 -- The run of `gateway`, given what its scan found.
 use Rattle.std.proofs.Common.{◌≡◌, ◌≢◌, ℕ, false, List, [], ◌∷◌, Some, None, Result, refl, arith, Ok, inl, Option, Err, inr, sym, subst, true, ap, ◌∙◌, take}
 use Rattle.std.specs.Prelude.{IfOk, IsErrOf, IsSome}
+use Rattle.avtp_base.specs.declared.failed.FaultPlace.{FaultPlace}
 use Rattle.avtp_base.specs.declared.failed.Failed.{Failed}
-use Rattle.avtp_base.specs.Faults.{Rose, IsOpenCounted}
+use Rattle.avtp_base.specs.Faults.{FailsAt, IsOpeningCounted, ReadingFaults}
 use Rattle.avtp_base.specs.Files.{Files, IsMissing, KeepsFiles}
 use Rattle.avtp_base.specs.States.{ShelfState, SinkState, Asks}
 use Rattle.avtp_text.specs.Written.{written}
@@ -32,7 +33,7 @@ use Rattle.run_report.specs.Made.{MakesOutput, CountsWriting}
 use Rattle.run_report.proofs.Yields.{part_none, part_text}
 use Rattle.run_report.proofs.Files.{missing_before, shown_still}
 use Rattle.run_report.specs.declared.status.Status.TheVariants as status
-use Rattle.gateway_command.specs.Gateway.{gateway_task, GatewayYields, fault_line, gateway_report, CanTurn, batches_by, records_of, shape_asked, turned_by}
+use Rattle.gateway_command.specs.Gateway.{gateway_task, GatewayYields, fault_line, gateway_report, CanTurn, batches_by, records_of, shape_asked, turned_by, FailsAgain}
 use Rattle.gateway_command.specs.state.Scanning.{ScansFile}
 use Rattle.gateway_command.proofs.GatewayRun.{cut, faulty, turned, unopened}
 use Rattle.run_report.proofs.RunReports.{same_run}
@@ -40,16 +41,17 @@ use Rattle.run_report.specs.Halt.{no_halt}
 use Rattle.gateway_command.specs.declared.scanning.Scanned.{Scanned}
 use Rattle.gateway_command.specs.state.Gateway.{TurnedOutcome, is_of_gateway, TurnsFile}
 use Rattle.gateway_command.specs.declared.scanning.Scanned.TheVariants as scanned
+use Rattle.gateway_command.proofs.TurnedInput.{again_weaker}
 
 -- ---- IN was read, and nothing was made
 
 module _ {s t : ShelfState} {h h' : SinkState} {l l' : List ℕ} {result : Result Status Failed} (asked : Turning) (keeps : OnlyReads s t (asked.input ∷ [])) where
-  scan_runs : (ended : Status) (line : List ℕ) → EndsWith ended h h' l l' result line → ((all : Files) → s.files ≡ Some all → GatewayYields asked all (Rose s.reading_faults t.reading_faults) (asked.input ∷ []) ended (says line) None)
+  scan_runs : (ended : Status) (line : List ℕ) → EndsWith ended h h' l l' result line → ((all : Files) → s.files ≡ Some all → GatewayYields asked all (FailsAt s.reading_faults t.reading_faults) (asked.input ∷ []) ended (says line) None)
       → CountsReading (asked.input ∷ []) s.files s.reading_faults t.reading_faults result → is_done ended ≡ false → ended ≢ status.WriteFault → ended ≢ status.Words → ended ≢ status.DeviceFault → Runs (gateway_task asked) HandsNothing false s t h h' l l' result
   scan_runs ended line ends outcome counts stops no_write no_words no_device = record {
     tells = λ all told some.
         tells_all keeps.files
-        (run_asked (λ came e yields. GatewayYields asked all (Rose s.reading_faults t.reading_faults) came e yields None) (asked.input ∷ [])
+        (run_asked (λ came e yields. GatewayYields asked all (FailsAt s.reading_faults t.reading_faults) came e yields None) (asked.input ∷ [])
         (tells_last (yield_telling (written h.held l) (written h'.held l') line refl) (outcome all told) ends) keeps.asked);
     files = kept_but s.files t.files asked.output keeps.files;
     slots = slots_but t.files s.slots t.slots asked.output keeps.slots;
@@ -66,7 +68,7 @@ pub faulty_runs : {s t : ShelfState} {h h' : SinkState} {l l' : List ℕ} {resul
     → EndsWith status.TalkInput h h' l l' result (fault_line (record { frame = frame; fault = why })) → Runs (gateway_task asked) HandsNothing false s t h h' l l' result
 faulty_runs {s} {t} {result = result} asked why frame scan ends =
     scan_runs asked scan.keeps status.TalkInput _ ends
-    (λ all told. let of = scan.told all told in faulty asked all _ of.0 (record { frame = frame; fault = why }) of.1 of.2)
+    (λ all told. let of = scan.told all told in faulty asked all (FailsAt s.reading_faults t.reading_faults) of.0 (record { frame = frame; fault = why }) of.1 of.2)
     (counts_by status.TalkInput result scan.keeps.reading (inl (λ e. cc, scan.counted)) ends.status) refl (λ e. cc) (λ e. cc) (λ e. cc)
 
 never_end : (how : End) → (status_of how ≢ status.WriteFault) × (status_of how ≢ status.Words) × (status_of how ≢ status.DeviceFault)
@@ -88,14 +90,14 @@ cut_runs {s} {t} {result = result} asked how scan ends =
     let other = scan.cut how refl in
     let never = never_end how in
     scan_runs asked scan.keeps (status_of how) _ ends
-    (λ all told. let of = scan.told all told in cut asked all _ of.0 of.2.0 how of.1 of.2.1 other of.2.2)
+    (λ all told. let of = scan.told all told in cut asked all (FailsAt s.reading_faults t.reading_faults) of.0 of.2.0 how of.1 of.2.1 other of.2.2)
     (counts_ended how result scan.keeps.reading scan.counted ends.status) (stops_end how other) never.0 never.1 never.2
 
 -- ---- IN was not opened
 
 unopened_tells : {s t : ShelfState} {h h' : SinkState} {l l' : List ℕ} {result : Result Status Failed} (asked : Turning) (why : OpenFault) (all : Files) → s.files ≡ Some all → OnlyReads s t (asked.input ∷ [])
-    → (IsErrOf {T = Sourcing} (Err why) open_fault.Missing → IsMissing s.files asked.input) → IsOpenCounted {T = Sourcing} s.reading_faults t.reading_faults (Err why) → EndsUnopened why h h' l l' result
-    → TellsAll (gateway_task asked) all (Rose s.reading_faults t.reading_faults) false HandsNothing s t (written h.held l) (written h'.held l') result
+    → (IsErrOf {T = Sourcing} (Err why) open_fault.Missing → IsMissing s.files asked.input) → IsOpeningCounted {T = Sourcing} s.reading_faults t.reading_faults (Err why) → EndsUnopened why h h' l l' result
+    → TellsAll (gateway_task asked) all (FailsAt s.reading_faults t.reading_faults) false HandsNothing s t (written h.held l) (written h'.held l') result
 unopened_tells {s} {t} {h} {h'} {l} {l'} {result} asked open_fault.Memory all told keeps missing counted ends =
     let left = ends.memory refl in
     let report = gateway_report asked (all asked.input) no_halt in
@@ -104,18 +106,18 @@ unopened_tells {s} {t} {h} {h'} {l} {l'} {result} asked open_fault.Memory all to
     let is_cut : IsCut result = subst IsCut (sym left.0) (inl refl) in
     record {
       made = made;
-      tells = run_cut (λ came e ys. GatewayYields asked all (Rose s.reading_faults t.reading_faults) came e ys made) report.came report.ended yields (no_halt, tt, refl) is_cut (part_none refl yields left.1);
+      tells = run_cut (λ came e ys. GatewayYields asked all (FailsAt s.reading_faults t.reading_faults) came e ys made) report.came report.ended yields (no_halt, tt, refl) is_cut (part_none refl yields left.1);
       whole = subst (λ (r : Result Status Failed). IfOk r (λ e. e ≢ status.Memory → e ≢ status.WriteFault → MakesOutput (Some asked.output) made s.files t.files)) (sym left.0) (λ memory write. absurd (memory refl));
       begun = part_kept (Some asked.output) made s.files t.files keeps.files;
     }
 unopened_tells {s} {t} {h} {h'} {l} {l'} asked open_fault.Missing all told keeps missing counted ends =
     tells_all keeps.files
-    (run_asked (λ came e yields. GatewayYields asked all (Rose s.reading_faults t.reading_faults) came e yields None) (asked.input ∷ [])
-    (tells_last (yield_telling (written h.held l) (written h'.held l') read_fault_line refl) (unopened asked all _ (inl (missing_none s.files asked.input all told (missing refl)))) (ends.other (λ e. cc))) keeps.asked)
+    (run_asked (λ came e yields. GatewayYields asked all (FailsAt s.reading_faults t.reading_faults) came e yields None) (asked.input ∷ [])
+    (tells_last (yield_telling (written h.held l) (written h'.held l') read_fault_line refl) (unopened asked all (FailsAt s.reading_faults t.reading_faults) (inl (missing_none s.files asked.input all told (missing refl)))) (ends.other (λ e. cc))) keeps.asked)
 unopened_tells {s} {t} {h} {h'} {l} {l'} asked open_fault.Failed all told keeps missing counted ends =
     tells_all keeps.files
-    (run_asked (λ came e yields. GatewayYields asked all (Rose s.reading_faults t.reading_faults) came e yields None) (asked.input ∷ [])
-    (tells_last (yield_telling (written h.held l) (written h'.held l') read_fault_line refl) (unopened asked all _ (inr (counted.failed refl))) (ends.other (λ e. cc))) keeps.asked)
+    (run_asked (λ came e yields. GatewayYields asked all (FailsAt s.reading_faults t.reading_faults) came e yields None) (asked.input ∷ [])
+    (tells_last (yield_telling (written h.held l) (written h'.held l') read_fault_line refl) (unopened asked all (FailsAt s.reading_faults t.reading_faults) (inr (counted.failed refl))) (ends.other (λ e. cc))) keeps.asked)
 
 pub unscanned_runs : {s t : ShelfState} {h h' : SinkState} {l l' : List ℕ} {result : Result Status Failed} (asked : Turning) (why : OpenFault) → ScansFile asked s t (Err why) → EndsUnopened why h h' l l' result → Runs (gateway_task asked) HandsNothing false s t h h' l l' result
 unscanned_runs {s} {t} {result = result} asked why scan ends =
@@ -138,11 +140,11 @@ unscanned_runs {s} {t} {result = result} asked why scan ends =
 
 -- ---- OUT was made
 
-outcome_since : (asked : Turning) (all : Files) (shape : Option Shape) (bytes : List ℕ) (a b : Type 0) (ended : Status) (text : List ℕ) (made : Option (List ℕ)) → (a → b) → all asked.input ≡ Some bytes
+outcome_since : (asked : Turning) (all : Files) (shape : Option Shape) (bytes : List ℕ) (a b : FaultPlace → Type 0) (ended : Status) (text : List ℕ) (made : Option (List ℕ)) → ((place : FaultPlace) → a place → b place) → all asked.input ≡ Some bytes
     → CanTurn asked bytes → shape ≡ shape_asked asked (records_of asked bytes) → TurnedOutcome asked shape bytes a ended text made
     → GatewayYields asked all b (asked.input ∷ asked.output ∷ asked.input ∷ []) ended (says text) made
 outcome_since asked all shape bytes a b ended text made weaker is can same o =
-    let at = turned asked all b bytes o.prefix o.how is can (ends_weaker asked.listener.limit (Some bytes) a b o.how o.prefix weaker o.ends) in
+    let at = turned asked all b bytes o.prefix o.how is can (ends_weaker asked.listener.limit (Some bytes) (FailsAgain bytes a) (FailsAgain bytes b) o.how o.prefix (again_weaker bytes a b weaker) o.ends) in
     let batches = batches_by asked (records_in o.prefix) o.how in
     (at.0, at.1, same_run _ _ ended _ (says text) _ made _ refl o.status (ap says o.printed) o.written ∙ (ap (λ (s : Option Shape). turned_by asked s batches o.how) same ∙ at.2))
 
@@ -167,9 +169,9 @@ through_own (Err e) through = absurd through
 missing_since : (f g : Option Files) (names : List (List ℕ)) → KeepsFiles f g → IsOneMissing names g → IsOneMissing names f
 missing_since f g names keeps one = record { name = one.name; one = one.one; missing = missing_before f g one.name keeps one.missing }
 
-reading_since : {names : List (List ℕ)} {f g : Option Files} {a b c : ℕ} {result : Result Status Failed} → KeepsFiles f g → b ≡ a → CountsReading names g b c result → CountsReading names f a c result
+reading_since : {names : List (List ℕ)} {f g : Option Files} {a b c : ReadingFaults} {result : Result Status Failed} → KeepsFiles f g → b ≡ a → CountsReading names g b c result → CountsReading names f a c result
 reading_since {names} {f} {g} {a} {b} {c} {result} keeps same counts =
-    let at = subst (λ (n : ℕ). CountsReading names g n c result) same counts in
+    let at = subst (λ (faults : ReadingFaults). CountsReading names g faults c result) same counts in
     record { never_falls = at.never_falls; fault = λ is. elim (at.fault is) [ inl rose ↦ inl rose | inr one ↦ inr (missing_since f g names keeps one) ]; quiet = at.quiet }
 
 module _ {s t u : ShelfState} {h h' : SinkState} {l l' : List ℕ} {result : Result Status Failed} (asked : Turning) (shape : Option Shape) (apart : asked.input ≢ asked.output) (scan : ScansFile asked s t (Ok (scanned.Clean shape)))
@@ -187,20 +189,20 @@ module _ {s t u : ShelfState} {h h' : SinkState} {l l' : List ℕ} {result : Res
       subst (λ (n : ℕ). Asks (take n (asked.input ∷ asked.output ∷ asked.input ∷ [])) s u) all asks.asked
   came_all (Err e) is = tt
 
-  told_all : (all : Files) → s.files ≡ Some all → IsSome u.files → TellsAll (gateway_task asked) all (Rose s.reading_faults u.reading_faults) false HandsNothing s u (written h.held l) (written h'.held l') result
+  told_all : (all : Files) → s.files ≡ Some all → IsSome u.files → TellsAll (gateway_task asked) all (FailsAt s.reading_faults u.reading_faults) false HandsNothing s u (written h.held l) (written h'.held l') result
   told_all all told some =
       let of = scan.told all told in
       let can : CanTurn asked of.0 = record { whole = of.2.0; none = of.2.1 } in
       let now = shown_still s.files t.files all told scan.keeps.files (told_before t.files u.files asked.output turns.files some) in
       let made = turns.told now.0 of.0 now.1 (now.2 asked.input ∙ of.1) some of.2.0 in
-      let rose : Rose t.reading_faults u.reading_faults → Rose s.reading_faults u.reading_faults = λ r. subst (λ (n : ℕ). Rose n u.reading_faults) scan.counted r in
+      let since : (place : FaultPlace) → FailsAt t.reading_faults u.reading_faults place → FailsAt s.reading_faults u.reading_faults place = λ place. subst (λ (faults : ReadingFaults). FailsAt faults u.reading_faults place) scan.counted in
       record {
         made = made.made;
         tells = record {
           came = asked.input ∷ asked.output ∷ asked.input ∷ [];
           ended = made.tells.ended;
           yields = says made.tells.yields;
-          outcome = outcome_since asked all shape of.0 _ _ made.tells.ended made.tells.yields made.made rose of.1 can of.2.2 made.tells.outcome;
+          outcome = outcome_since asked all shape of.0 _ _ made.tells.ended made.tells.yields made.made since of.1 can of.2.2 made.tells.outcome;
           whole = whole_at result made.tells.ended made.tells.yields (came_all result refl) made.tells.whole;
           part = part_text refl (says made.tells.yields) made.tells.part;
         };

@@ -1,6 +1,7 @@
 -- What a scan found in the records of a capture.
 use Rattle.std.proofs.Common.{◌≡◌, ℕ, List, length, Option, [], refl, ◌+◌, ◌∷◌, ◌++◌, arith, length-append, None, sym, subst, take, ap, ◌∙◌, Some, suc, append_assoc}
 use Rattle.std.specs.Prelude.{◌≢◌, IfSome}
+use Rattle.avtp_base.specs.declared.failed.FaultPlace.{FaultPlace}
 use Rattle.pcap_frames.specs.Capture.{Record}
 use Rattle.capture_io.specs.Source.{HasGiven, Sourcing, EndsAfter}
 use Rattle.am824_gateway.specs.declared.scan.To.{To}
@@ -28,10 +29,10 @@ pub one_scanned : {to : To} {stream limit frames : ℕ} {bytes : List ℕ} {rema
     → HasGiven limit bytes remains source (records ++ r ∷ []) → frames ≡ length records → HasScanned to stream (records ++ r ∷ []) scan → IsScannedTo to stream limit bytes remains source (frames + 1) scan
 one_scanned records r given counted clean = record { records = records ++ r ∷ []; given = given; counted = simp length-append (omega (arith, counted)); clean = clean }
 
-scanned_cut : {to : To} {stream limit : ℕ} {bytes : List ℕ} {fault : Type 0} {scan : Scanning} {how : End} (records : List Record) → EndsAfter limit bytes fault how records → HasScanned to stream records scan → ScansTo to stream limit bytes fault (scanned.Cut how)
+scanned_cut : {to : To} {stream limit : ℕ} {bytes : List ℕ} {fault : FaultPlace → Type 0} {scan : Scanning} {how : End} (records : List Record) → EndsAfter limit bytes fault how records → HasScanned to stream records scan → ScansTo to stream limit bytes fault (scanned.Cut how)
 scanned_cut {to} {stream} records ends clean = (ends.prefix, ends.ends, subst (λ (rs : List Record). first_fault to stream rs ≡ None) (sym ends.whole) clean.none)
 
-pub scanned_ended : {to : To} {stream limit : ℕ} {bytes : List ℕ} {fault : Type 0} {scan : Scanning} (how : End) (shape : Option Shape) (records : List Record)
+pub scanned_ended : {to : To} {stream limit : ℕ} {bytes : List ℕ} {fault : FaultPlace → Type 0} {scan : Scanning} (how : End) (shape : Option Shape) (records : List Record)
     → EndsAfter limit bytes fault how records → HasScanned to stream records scan → shape ≡ shape_in stream records → ScansTo to stream limit bytes fault (scanned_as how shape)
 scanned_ended {to} {stream} {limit} {bytes} end.Whole shape records ends clean is =
     let all : records ≡ records_in (take limit bytes) = sym ends.whole ∙ ap records_in ends.ends.1 in

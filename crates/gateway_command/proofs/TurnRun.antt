@@ -1,6 +1,7 @@
 -- A run of `gateway` after its scan: OUT is made, IN is read again, and OUT is finished.
 use Rattle.std.proofs.Common.{ℕ, List, Option, Some, None, ◌≡◌, ◌≢◌, refl, ap, ◌∙◌, sym, ◌-◌, ◌++◌, Result, Ok, Err, true, false, take, length, inl, inr, subst, arith, append-nil, [], ◌∷◌, ◌≤◌, append_assoc}
 use Rattle.std.specs.Prelude.{IsSome, ◌==◌, if◌then◌else◌, flat_map, IfOk, IsErr, ◌⊎◌, map}
+use Rattle.avtp_base.specs.declared.failed.FaultPlace.{FaultPlace}
 use Rattle.avtp_base.specs.Files.{Files, PutsFile, IsMissing}
 use Rattle.avtp_base.specs.declared.failed.Failed.{Failed}
 use Rattle.avtp_base.specs.States.{SinkState, ShelfState, WasAsked}
@@ -18,7 +19,7 @@ use Rattle.capture_io.specs.Writing.{MakesPrefix, PutsPrefix}
 use Rattle.avtp_base.proofs.Files.{KeepsFiles-refl}
 use Rattle.avtp_base.specs.declared.failed.OpenFault.{OpenFault}
 use Rattle.capture_io.specs.CaptureWriting.{BeginsCapture, ClosesCapture, FinishesCapture, HoldsCapture, capture_bytes}
-use Rattle.avtp_base.specs.Faults.{Rose}
+use Rattle.avtp_base.specs.Faults.{FailsAt, HasOneMore, ReadingFaults}
 use Rattle.listener.specs.Listening.{ListenState, StandsFor, is_closed}
 use Rattle.pcap_frames.specs.Capture.{Record}
 use Rattle.capture_io.proofs.Ending.{ends_weaker}
@@ -36,13 +37,16 @@ use Rattle.run_report.proofs.Making.{files_still, slots_still, kept_but, slots_b
 use Rattle.run_report.specs.Endings.{unmade_as}
 use Rattle.run_report.specs.Listener.{plan_of}
 use Rattle.run_report.specs.declared.status.Status.TheVariants as status
-use Rattle.gateway_command.specs.Gateway.{turned_status, batches_by, skips_in, turned_capture, turned_text, skipped_line, turned_last, turned_frames, format_of}
+use Rattle.gateway_command.specs.Gateway.{turned_status, batches_by, skips_in, turned_capture, turned_text, skipped_line, turned_last, turned_frames, format_of, FailsAgain}
 use Rattle.gateway_command.specs.state.Gateway.{is_of_gateway, TurnedOutcome, TurnsFile, EndsOutput, finished, unfinished, TurnsInput, ended_line}
 use Rattle.gateway_command.specs.declared.turning.Output.{Output}
 use Rattle.gateway_command.specs.declared.turning.Turned.{Turned}
 use Rattle.gateway_command.specs.state.Turning.{IsCutShort, TurnsTo, HasPut, IsFreshOutput}
 use Rattle.gateway_command.proofs.PutBatches.{batches_count, packets_count}
 use Rattle.gateway_command.specs.declared.turning.Turned.TheVariants as turn
+use Rattle.gateway_command.proofs.TurnedInput.{again_weaker}
+use Rattle.run_report.proofs.DoesFile.{around}
+use Rattle.run_report.proofs.Leaving.{same_count}
 
 -- ---- files
 
@@ -113,13 +117,13 @@ turned_fault skipped end.Limit = (λ e. cc, λ e. cc)
 abbrev pub all_batches : Turning → List ℕ → List Presented
 all_batches asked bytes = batches_by asked (records_in (take asked.listener.limit bytes)) end.Whole
 
-whole_outcome : (asked : Turning) (shape : Option Shape) (bytes : List ℕ) (fault : Type 0) → end_of asked.listener.limit bytes ≡ end.Whole
+whole_outcome : (asked : Turning) (shape : Option Shape) (bytes : List ℕ) (fault : FaultPlace → Type 0) → end_of asked.listener.limit bytes ≡ end.Whole
     → TurnedOutcome asked shape bytes fault (turned_status (length (skips_in asked shape (all_batches asked bytes))) end.Whole) (turned_text asked shape (all_batches asked bytes) end.Whole) (Some (turned_capture asked shape (all_batches asked bytes)))
 whole_outcome asked shape bytes fault whole = record { how = end.Whole; prefix = take asked.listener.limit bytes; ends = (sym whole, refl); status = refl; printed = refl; written = refl }
 
 -- If a run was cut short, printed a prefix of the lines and wrote a prefix of the capture, `Produces` holds for the
 -- run.
-produces_cut : {before now : Option (List ℕ)} {f g : Option Files} {result : Result Status Failed} (asked : Turning) (shape : Option Shape) (bytes : List ℕ) (fault : Type 0) → end_of asked.listener.limit bytes ≡ end.Whole → IsCut result
+produces_cut : {before now : Option (List ℕ)} {f g : Option Files} {result : Result Status Failed} (asked : Turning) (shape : Option Shape) (bytes : List ℕ) (fault : FaultPlace → Type 0) → end_of asked.listener.limit bytes ≡ end.Whole → IsCut result
     → AppendsPrefix before now (flat_map skipped_line (skips_in asked shape (all_batches asked bytes))) → MakesPrefix f g asked.output (turned_capture asked shape (all_batches asked bytes))
     → Produces (TurnedOutcome asked shape bytes fault) (Some asked.output) before now f g result
 produces_cut {before} {now} {f} {g} {result} asked shape bytes fault whole cut lines part = record {
@@ -155,7 +159,7 @@ turns_unmade {s} {t} {out} {waits} asked shape why begins = record {
   told = λ all bytes told has some whole. produces_cut asked shape bytes _ whole (unmade_cut why) (prefix_none (written out.held waits) (written out.held waits) _ (Keeps-refl _)) (inl begins.not_made.files);
   files = kept_but s.files t.files asked.output begins.not_made.files;
   slots = slots_but s.files s.slots t.slots asked.output begins.not_made.slots;
-  reading = record { never_falls = omega (arith, begins.reading); fault = λ e. absurd (unmade_reads why (ok_same (Ok (unmade_as why)) (unmade_as why) status.ReadFault refl e)); quiet = λ fault memory write. begins.reading };
+  reading = record { never_falls = omega (arith, same_count begins.reading); fault = λ e. absurd (unmade_reads why (ok_same (Ok (unmade_as why)) (unmade_as why) status.ReadFault refl e)); quiet = λ fault memory write. begins.reading };
   writing = unmade_writes why begins;
   own = unmade_own why;
   asks = record { count = 1; within = omega arith; all = λ d. absurd (unmade_never why d); asked = begins.asked };
@@ -214,7 +218,7 @@ err_never : (result : Result Status Failed) (other : Status) → IsErr result �
 err_never (Ok s) other err e = absurd cc
 err_never (Err x) other err e = cc
 
-cut_reading : {names : List (List ℕ)} {files : Option Files} {before after : ℕ} (result : Result Status Failed) → before ≤ after → (result ≡ Ok status.Memory) ⊎ (result ≡ Ok status.WriteFault) → CountsReading names files before after result
+cut_reading : {names : List (List ℕ)} {files : Option Files} {before after : ReadingFaults} (result : Result Status Failed) → before.count ≤ after.count → (result ≡ Ok status.Memory) ⊎ (result ≡ Ok status.WriteFault) → CountsReading names files before after result
 cut_reading (Ok s) falls cut = record {
   never_falls = falls;
   fault = λ e. elim cut [
@@ -225,7 +229,7 @@ cut_reading (Ok s) falls cut = record {
 }
 cut_reading (Err e) falls cut = record { never_falls = falls; fault = λ r. absurd cc; quiet = tt }
 
-err_reading : {names : List (List ℕ)} {files : Option Files} {before after : ℕ} (result : Result Status Failed) → before ≤ after → IsErr result → CountsReading names files before after result
+err_reading : {names : List (List ℕ)} {files : Option Files} {before after : ReadingFaults} (result : Result Status Failed) → before.count ≤ after.count → IsErr result → CountsReading names files before after result
 err_reading (Ok s) falls err = absurd cc
 err_reading (Err e) falls err = record { never_falls = falls; fault = λ r. absurd cc; quiet = tt }
 
@@ -265,28 +269,28 @@ module _ {s t u : ShelfState} (v : ShelfState) {o o' : Output} {listener : Liste
   reading_by : (turned : Result Turned Failed) → asked.input ≢ asked.output → TurnsInput asked t u listener o o' out mid waits waits1 turned → EndsOutput asked.listener.limit turned u v o' mid out' waits1 waits' result
       → v.reading_faults ≡ u.reading_faults → CountsReading (asked.input ∷ []) s.files s.reading_faults v.reading_faults result
   reading_by (Ok (turn.Ended how presented)) apart input (finished fin last) still = record {
-    never_falls = omega (arith, begins.reading, input.writes.reading, still);
+    never_falls = omega (arith, same_count begins.reading, input.writes.reading, same_count still);
     fault = λ e. faulted how input (ended_fault how last.status e);
     quiet = quieted how input result last.status;
   } where
     ended_fault : (h : End) → IfOk result (λ x. x ≡ turned_status (presented - o'.gateway.given.batches) h) → result ≡ Ok status.ReadFault → h ≡ end.ReadFault
     ended_fault h is e = (turned_fault (presented - o'.gateway.given.batches) h).0 (ended_as result _ status.ReadFault is e)
 
-    faulted : (h : End) → TurnsInput asked t u listener o o' out mid waits waits1 (Ok (turn.Ended h presented)) → h ≡ end.ReadFault → Rose s.reading_faults v.reading_faults ⊎ IsOneMissing (asked.input ∷ []) s.files
+    faulted : (h : End) → TurnsInput asked t u listener o o' out mid waits waits1 (Ok (turn.Ended h presented)) → h ≡ end.ReadFault → HasOneMore s.reading_faults v.reading_faults ⊎ IsOneMissing (asked.input ∷ []) s.files
     faulted h read is =
         elim (read.fault presented (ap (λ (x : End). Ok (turn.Ended x presented)) is)) [
-          | inl rose ↦ inl (omega (arith, begins.reading, rose, still))
+          | inl once ↦ inl (around HasOneMore begins.reading still once)
           | inr missing ↦ inr (record { name = asked.input; one = (0, omega arith, refl); missing = missing_put s.files t.files asked.output begins.begun.held asked.input apart begins.begun.put missing })
         ]
 
     quieted : (h : End) → TurnsInput asked t u listener o o' out mid waits waits1 (Ok (turn.Ended h presented)) → (r : Result Status Failed) → IfOk r (λ x. x ≡ turned_status (presented - o'.gateway.given.batches) h)
         → IfOk r (λ x. x ≢ status.ReadFault → x ≢ status.Memory → x ≢ status.WriteFault → v.reading_faults ≡ s.reading_faults)
-    quieted h read (Ok x) is = λ fault memory write. omega (arith, begins.reading, still, read.quiet h refl (λ e. fault (is ∙ (turned_fault (presented - o'.gateway.given.batches) h).1 e)))
+    quieted h read (Ok x) is = λ fault memory write. still ∙ read.quiet h refl (λ e. fault (is ∙ (turned_fault (presented - o'.gateway.given.batches) h).1 e)) ∙ begins.reading
     quieted h read (Err e) is = tt
-  reading_by (Ok (turn.Ended how presented)) apart input (unfinished e fin is nothing) still = cut_reading result (omega (arith, begins.reading, input.writes.reading, still)) (inr is)
-  reading_by (Ok turn.NoMemory) apart input ab still = cut_reading result (omega (arith, begins.reading, input.writes.reading, still)) (inl ab.ended)
-  reading_by (Ok turn.Unwritten) apart input ab still = cut_reading result (omega (arith, begins.reading, input.writes.reading, still)) (inr ab.ended)
-  reading_by (Err e) apart input ab still = err_reading result (omega (arith, begins.reading, input.writes.reading, still)) ab.ended
+  reading_by (Ok (turn.Ended how presented)) apart input (unfinished e fin is nothing) still = cut_reading result (omega (arith, same_count begins.reading, input.writes.reading, same_count still)) (inr is)
+  reading_by (Ok turn.NoMemory) apart input ab still = cut_reading result (omega (arith, same_count begins.reading, input.writes.reading, same_count still)) (inl ab.ended)
+  reading_by (Ok turn.Unwritten) apart input ab still = cut_reading result (omega (arith, same_count begins.reading, input.writes.reading, same_count still)) (inr ab.ended)
+  reading_by (Err e) apart input ab still = err_reading result (omega (arith, same_count begins.reading, input.writes.reading, same_count still)) ab.ended
 
 -- ---- the status and the sink
 
@@ -345,7 +349,7 @@ cut_err (Ok s) err = absurd cc
 cut_err (Err e) err = tt
 
 module _ (s t u v : ShelfState) (o' : Output) (out mid out' : SinkState) (waits waits1 waits' : List ℕ) (asked : Turning) (shape : Option Shape) (bytes : List ℕ) (whole : end_of asked.listener.limit bytes ≡ end.Whole)
-    (rose : Rose t.reading_faults u.reading_faults → Rose s.reading_faults v.reading_faults) where
+    (fails : (place : FaultPlace) → FailsAt t.reading_faults u.reading_faults place → FailsAt s.reading_faults v.reading_faults place) where
   first_part : {r : Result Unit Failed} → IsCutShort asked shape bytes s.files u o' (written out.held waits) (written mid.held waits1) → ClosesCapture u v o'.writer r → MakesPrefix s.files v.files asked.output (turned_capture asked shape (all_batches asked bytes))
   first_part short closes =
       let records : List Record = map record_of (turned_frames asked shape (all_batches asked bytes)) in
@@ -353,18 +357,18 @@ module _ (s t u v : ShelfState) (o' : Output) (out mid out' : SinkState) (waits 
       inr (prefix_further rest.0 rest.1 (closes.prefix s.files asked.output (take short.holds.count records) short.holds.holds))
 
   cut_made : {r : Result Unit Failed} (result : Result Status Failed) → IsCut result → IsCutShort asked shape bytes s.files u o' (written out.held waits) (written mid.held waits1) → ClosesCapture u v o'.writer r → out' ≡ mid → waits' ≡ waits1
-      → Produces (TurnedOutcome asked shape bytes (Rose s.reading_faults v.reading_faults)) (Some asked.output) (written out.held waits) (written out'.held waits') s.files v.files result
+      → Produces (TurnedOutcome asked shape bytes (FailsAt s.reading_faults v.reading_faults)) (Some asked.output) (written out.held waits) (written out'.held waits') s.files v.files result
   cut_made result cut short closes same still =
       produces_cut asked shape bytes _ whole cut (rw (same, still) short.lines) (first_part short closes)
 
-  outcome_by : (how : End) (prefix : List ℕ) → EndsAt asked.listener.limit (Some bytes) (Rose t.reading_faults u.reading_faults) how prefix
-      → TurnedOutcome asked shape bytes (Rose s.reading_faults v.reading_faults) (turned_status (length (skips_in asked shape (batches_by asked (records_in prefix) how))) how) (turned_text asked shape (batches_by asked (records_in prefix) how) how)
+  outcome_by : (how : End) (prefix : List ℕ) → EndsAt asked.listener.limit (Some bytes) (FailsAgain bytes (FailsAt t.reading_faults u.reading_faults)) how prefix
+      → TurnedOutcome asked shape bytes (FailsAt s.reading_faults v.reading_faults) (turned_status (length (skips_in asked shape (batches_by asked (records_in prefix) how))) how) (turned_text asked shape (batches_by asked (records_in prefix) how) how)
       (Some (turned_capture asked shape (batches_by asked (records_in prefix) how)))
-  outcome_by how prefix ends = record { how = how; prefix = prefix; ends = ends_weaker asked.listener.limit (Some bytes) _ _ how prefix rose ends; status = refl; printed = refl; written = refl }
+  outcome_by how prefix ends = record { how = how; prefix = prefix; ends = ends_weaker asked.listener.limit (Some bytes) (FailsAgain bytes (FailsAt t.reading_faults u.reading_faults)) (FailsAgain bytes (FailsAt s.reading_faults v.reading_faults)) how prefix (again_weaker bytes _ _ fails) ends; status = refl; printed = refl; written = refl }
 
-  produces_by : (turned : Result Turned Failed) (result : Result Status Failed) → TurnsTo asked shape bytes (Rose t.reading_faults u.reading_faults) s.files u o' (written out.held waits) (written mid.held waits1) turned
+  produces_by : (turned : Result Turned Failed) (result : Result Status Failed) → TurnsTo asked shape bytes (FailsAgain bytes (FailsAt t.reading_faults u.reading_faults)) s.files u o' (written out.held waits) (written mid.held waits1) turned
       → EndsOutput asked.listener.limit turned u v o' mid out' waits1 waits' result
-      → Produces (TurnedOutcome asked shape bytes (Rose s.reading_faults v.reading_faults)) (Some asked.output) (written out.held waits) (written out'.held waits') s.files v.files result
+      → Produces (TurnedOutcome asked shape bytes (FailsAt s.reading_faults v.reading_faults)) (Some asked.output) (written out.held waits) (written out'.held waits') s.files v.files result
   produces_by (Ok (turn.Ended how presented)) result heard (finished fin last) =
       let batches : List Presented = batches_by asked (records_in heard.prefix) how in
       let given = heard.turned.put.given in
@@ -452,7 +456,7 @@ module _ {s t u : ShelfState} (v : ShelfState) {o o' : Output} {listener : Liste
         let still = shown_u some in
         let now = told_put s.files t.files asked.output begins.begun.held all told begins.begun.put (shown_t still) in
         let fresh : IsFreshOutput asked shape s.files t o = record { apart = apart; named = begins.begun.named (subst IsSome (sym told) refl); none = none; holds = begins.begun } in
-        produces_by s t u v o' out mid out' waits waits1 waits' asked shape bytes whole (λ (rose : Rose t.reading_faults u.reading_faults). (let r : Rose s.reading_faults v.reading_faults = omega (arith, rose, begins.reading, closed.closes.reading) in r)) turned result
+        produces_by s t u v o' out mid out' waits waits1 waits' asked shape bytes whole (λ place. around (λ before after. FailsAt before after place) begins.reading closed.closes.reading) turned result
         (input.told shape bytes s.files now.0 now.1 (now.2 asked.input apart ∙ has) still fresh stands going plan whole) ends;
     files = puts_but s.files v.files asked.output part.prefix part.put;
     slots = slots_closed held.0 begins input.slots input.writes.slot held.1 closed.closes;

@@ -2,6 +2,8 @@
 use Rattle.std.proofs.Common.{◌≡◌, ℕ, List, [], take, Option, Some, Result, Ok, Err, ap, ◌∙◌, arith, length, refl, sym, subst, None, inl, inr, ◌≤◌, true, ◌∷◌, ◌++◌, false}
 use Rattle.std.specs.Prelude.{option_and_then, IsErrOf, ◌⊎◌, ◌≢◌, OnErr, OnOk, option_map, IsSome}
 use Rattle.std.proofs.lemmas.Bool.Decides.{eqb_tells}
+use Rattle.avtp_base.specs.declared.failed.FaultPlace.TheVariants as fault_place
+use Rattle.avtp_base.specs.declared.failed.FaultPlace.{FaultPlace}
 use Rattle.avtp_base.specs.declared.failed.Failed.{Failed}
 use Rattle.avtp_base.specs.Files.{Files, KeepsFiles, Open, IsMissing, file_of, KeepsOtherFiles, left_in, name_in}
 use Rattle.avtp_base.specs.States.{ShelfState, SinkState}
@@ -21,7 +23,7 @@ use Rattle.avtp_base.proofs.Told.{Appends-nil, Keeps-refl}
 use Rattle.capture_io.specs.Source.{Sourcing, slot_of, OpensSource, HasGivenOf}
 use Rattle.sample_schedule.specs.Batches.{Presented}
 use Rattle.avtp_text.proofs.Printing.{prefix_none}
-use Rattle.avtp_base.specs.Faults.{Rose}
+use Rattle.avtp_base.specs.Faults.{FailsAt, HasOneMore, ReadingFaults, Rose}
 use Rattle.capture_io.specs.Reads.{TriesOpen}
 use Rattle.capture_io.specs.declared.end.End.{End}
 use Rattle.avtp_files.specs.ShelfCalls.{IsMadeIn, ClosesSlot}
@@ -32,11 +34,12 @@ use Rattle.avtp_base.specs.declared.failed.OpenFault.TheVariants as open_fault
 use Rattle.avtp_text.specs.Written.{written}
 use Rattle.run_report.specs.Listener.{plan_of}
 use Rattle.run_report.proofs.Outcomes.{sink_still}
-use Rattle.run_report.proofs.Leaving.{some_same}
+use Rattle.run_report.proofs.DoesFile.{around}
+use Rattle.run_report.proofs.Leaving.{quiet_end, same_count, some_same}
 use Rattle.gateway_command.specs.declared.turning.Output.{Output}
 use Rattle.gateway_command.specs.declared.turning.Turned.{Turned}
 use Rattle.gateway_command.specs.state.Turning.{IsCutShort, IsFreshOutput, TurnsTo, HasTurned, ended_turn, wrote_all, WritesOutput, AreOpenIn, Turns}
-use Rattle.gateway_command.specs.Gateway.{batches_by, format_of}
+use Rattle.gateway_command.specs.Gateway.{batches_by, format_of, FailsAgain}
 use Rattle.gateway_command.specs.state.Gateway.{unread_as, TurnsInput}
 use Rattle.gateway_command.proofs.TurningTo.{none_for}
 use Rattle.gateway_command.proofs.HeardBeside.{live_same}
@@ -60,7 +63,7 @@ module _ (asked : Turning) (shape : Option Shape) (files : Option Files) (s t : 
   }
 
   -- `TurnsTo` still holds if the condition for a read fault is weakened
-  turned_still : (before now : Option (List ℕ)) (bytes : List ℕ) (cause cause' : Type 0) (result : Result Turned Failed) → (cause → cause') → TurnsTo asked shape bytes cause files s o before now result → TurnsTo asked shape bytes cause' files t o before now result
+  turned_still : (before now : Option (List ℕ)) (bytes : List ℕ) (cause cause' : FaultPlace → Type 0) (result : Result Turned Failed) → ((place : FaultPlace) → cause place → cause' place) → TurnsTo asked shape bytes cause files s o before now result → TurnsTo asked shape bytes cause' files t o before now result
   turned_still before now bytes cause cause' (Ok (turned.Ended how presented)) make heard = record {
     prefix = heard.prefix;
     ends = ends_weaker asked.listener.limit (Some bytes) cause cause' how heard.prefix make heard.ends;
@@ -77,7 +80,7 @@ module _ (asked : Turning) (shape : Option Shape) (files : Option Files) (s t : 
 none_presented : (asked : Turning) → batches_by asked (records_in []) end.ReadFault ≡ []
 none_presented asked = ap (λ (rs : List Record). presented_of (due_of (plan_of asked.listener) rs)) (short_records [] (omega arith)) ∙ ap presented_of (due_none (plan_of asked.listener))
 
-module _ (asked : Turning) (shape : Option Shape) (files : Option Files) (s : ShelfState) (o : Output) (before : Option (List ℕ)) (bytes : List ℕ) (cause : Type 0) (fresh : IsFreshOutput asked shape files s o) where
+module _ (asked : Turning) (shape : Option Shape) (files : Option Files) (s : ShelfState) (o : Output) (before : Option (List ℕ)) (bytes : List ℕ) (cause : FaultPlace → Type 0) (fresh : IsFreshOutput asked shape files s o) where
   none_turned : (batches : List Presented) → batches ≡ [] → HasTurned asked shape batches files s o before before
   none_turned batches none = subst (λ (l : List Presented). HasTurned asked shape l files s o before before) (sym none) (record {
     put = fresh.none;
@@ -85,12 +88,12 @@ module _ (asked : Turning) (shape : Option Shape) (files : Option Files) (s : Sh
     holds = subst (HoldsCapture files s o.writer asked.output) (sym (none_for (format_of asked.to) shape asked.id)) fresh.holds;
   })
 
-  none_to : (fault : OpenFault) → (IsErrOf {T = Sourcing} (Err fault) open_fault.Missing → ⊥) → (IsErrOf {T = Sourcing} (Err fault) open_fault.Failed → cause) → TurnsTo asked shape bytes cause files s o before before (Ok (unread_as fault))
+  none_to : (fault : OpenFault) → (IsErrOf {T = Sourcing} (Err fault) open_fault.Missing → ⊥) → (IsErrOf {T = Sourcing} (Err fault) open_fault.Failed → cause (fault_place.Reading (length bytes))) → TurnsTo asked shape bytes cause files s o before before (Ok (unread_as fault))
   none_to open_fault.Memory there rose = record { lines = prefix_none before before _ (Keeps-refl before); holds = record { count = 0; holds = fresh.holds } }
   none_to open_fault.Missing there rose = absurd (there refl)
   none_to open_fault.Failed there rose = record {
     prefix = [];
-    ends = (rose refl, (bytes, refl, omega arith, short_certain [] (omega arith)));
+    ends = (bytes, refl, rose refl, omega arith, short_certain [] (omega arith));
     turned = none_turned (batches_by asked (records_in []) end.ReadFault) (none_presented asked);
     counted = sym (ap (λ (l : List Presented). length l) (none_presented asked));
   }
@@ -101,12 +104,12 @@ missing_not None all name bytes told has missing = missing
 missing_not (Some f) all name bytes told has missing = (let same : f ≡ all = cc in let none : all name ≡ None = ap (λ (g : Files). g name) (sym same) ∙ missing in let t : None ≡ Some bytes = sym none ∙ has in cc)
 
 module _ {s t : ShelfState} {name : List ℕ} where
-  unread_fault : (fault : OpenFault) (presented : ℕ) → TriesOpen {T = Sourcing} slot_of s t name (Err fault) → ◌≡◌ {A = Result Turned Failed} (Ok (unread_as fault)) (Ok (turned.Ended end.ReadFault presented)) → Rose s.reading_faults t.reading_faults ⊎ IsMissing s.files name
+  unread_fault : (fault : OpenFault) (presented : ℕ) → TriesOpen {T = Sourcing} slot_of s t name (Err fault) → ◌≡◌ {A = Result Turned Failed} (Ok (unread_as fault)) (Ok (turned.Ended end.ReadFault presented)) → HasOneMore s.reading_faults t.reading_faults ⊎ IsMissing s.files name
   unread_fault open_fault.Memory presented tries is = absurd cc
   unread_fault open_fault.Missing presented tries is = inr (tries.missing refl)
-  unread_fault open_fault.Failed presented tries is = inl (tries.counted.failed refl)
+  unread_fault open_fault.Failed presented tries is = inl (tries.counted.failed refl).once
 
-unread_quiet : (fault : OpenFault) (how : End) (before after : ℕ) → ended_turn (Ok (unread_as fault)) ≡ Some how → how ≢ end.ReadFault → after ≡ before
+unread_quiet : (fault : OpenFault) (how : End) (before after : ReadingFaults) → ended_turn (Ok (unread_as fault)) ≡ Some how → how ≢ end.ReadFault → after ≡ before
 unread_quiet open_fault.Memory how before after is other = absurd cc
 unread_quiet open_fault.Missing how before after is other = absurd (other cc)
 unread_quiet open_fault.Failed how before after is other = absurd (other cc)
@@ -117,7 +120,7 @@ unread_wrote open_fault.Missing = refl
 unread_wrote open_fault.Failed = refl
 
 module _ {s t : ShelfState} {o : Output} {result : Result Turned Failed} where
-  writes_none : wrote_all result ≡ Ok tt → KeepsFiles s.files t.files → t.slots o.writer.slot ≡ s.slots o.writer.slot → IsMadeIn s.slots o.writer.slot → t.writing_faults ≡ s.writing_faults → s.reading_faults ≤ t.reading_faults → WritesOutput s t o o result
+  writes_none : wrote_all result ≡ Ok tt → KeepsFiles s.files t.files → t.slots o.writer.slot ≡ s.slots o.writer.slot → IsMadeIn s.slots o.writer.slot → t.writing_faults ≡ s.writing_faults → s.reading_faults.count ≤ t.reading_faults.count → WritesOutput s t o o result
   writes_none wrote keeps slot made same reading = record {
     slot = refl;
     made = ap (option_map (λ (f : Open). f.made)) slot ∙ made;
@@ -132,8 +135,8 @@ pub input_unread : {s t : ShelfState} {listener : ListenState} {o : Output} {out
     → TurnsInput asked s t listener o o out out waits waits (Ok (unread_as fault))
 input_unread {s} {t} {o = o} {out} {waits} asked fault made tries = record {
   told = λ shape bytes files all told has shown fresh stands going plan whole.
-      none_to asked shape files t o (written out.held waits) bytes (Rose s.reading_faults t.reading_faults) (fresh_still asked shape files s t o tries.refused.files (tries.refused.slots o.writer.slot) fresh) fault
-      (λ is. missing_not s.files all asked.input bytes told has (tries.missing is)) (λ is. tries.counted.failed is);
+      none_to asked shape files t o (written out.held waits) bytes (FailsAgain bytes (FailsAt s.reading_faults t.reading_faults)) (fresh_still asked shape files s t o tries.refused.files (tries.refused.slots o.writer.slot) fresh) fault
+      (λ is. missing_not s.files all asked.input bytes told has (tries.missing is)) (λ is. inr (tries.counted.failed is, refl));
   slots = record { same = λ j. ap (option_map file_of) (tries.refused.slots j); left = λ j apart. ap (option_and_then (λ (f : Open). f.left)) (tries.refused.slots j) };
   writes = writes_none (unread_wrote fault) tries.refused.files (tries.refused.slots o.writer.slot) made tries.refused.writing tries.refused.reading;
   fault = λ presented is. unread_fault fault presented tries is;
@@ -142,13 +145,11 @@ input_unread {s} {t} {o = o} {out} {waits} asked fault made tries = record {
   sink = sink_still out (unread_as fault);
 }
 
--- ---- a capture that was opened again
+-- a read fault of the second reading, under a weaker condition
+pub again_weaker : (bytes : List ℕ) (a b : FaultPlace → Type 0) → ((place : FaultPlace) → a place → b place) → (place : FaultPlace) → FailsAgain bytes a place → FailsAgain bytes b place
+again_weaker bytes a b weaker place fails = elim fails [ inl here ↦ inl (weaker place here) | inr opening ↦ inr (weaker fault_place.Opening opening.0, opening.1) ]
 
-quiet_end : (how : End) (before after : ℕ) → how ≢ end.ReadFault → CountsFault None (Some how) before after → after ≡ before
-quiet_end end.Whole before after other counted = counted
-quiet_end (end.Refused refusal) before after other counted = counted
-quiet_end end.ReadFault before after other counted = absurd (other refl)
-quiet_end end.Limit before after other counted = counted
+-- ---- a capture that was opened again
 
 -- a capture is opened in one slot, and that slot differs from the slot of the file that is written
 opened_apart : {s t : ShelfState} {source : Sourcing} (asked : Turning) (w : ℕ) → IsMadeIn s.slots w → OpensSource s t asked.listener.limit asked.input (Ok source) → slot_of source ≢ w
@@ -185,15 +186,15 @@ module _ {s t u v : ShelfState} {source source' : Sourcing} {listener : ListenSt
   closed_new : v.slots new.writer.slot ≡ u.slots new.writer.slot
   closed_new = subst (λ (n : ℕ). v.slots n ≡ u.slots n) (sym turns.writes.slot) closed_same
 
-  rose_around : Rose t.reading_faults u.reading_faults → Rose s.reading_faults v.reading_faults
-  rose_around rose = subst (λ (n : ℕ). Rose n v.reading_faults) opens.tries.counted.ok (subst (Rose t.reading_faults) (sym closes.reading) rose)
+  fails_around : (place : FaultPlace) → FailsAt t.reading_faults u.reading_faults place → FailsAt s.reading_faults v.reading_faults place
+  fails_around place = around (λ before after. FailsAt before after place) opens.tries.counted.ok closes.reading
 
   input_told : (shape : Option Shape) (bytes : List ℕ) (files : Option Files) (all : Files) → s.files ≡ Some all → all asked.input ≡ Some bytes → IsFreshOutput asked shape files s old → StandsFor [] 0 listener → is_closed listener ≡ false → listener.plan ≡ plan_of asked.listener
-      → TurnsTo asked shape bytes (Rose s.reading_faults v.reading_faults) files v new (written out.held waits) (written out'.held waits') result
+      → TurnsTo asked shape bytes (FailsAgain bytes (FailsAt s.reading_faults v.reading_faults)) files v new (written out.held waits) (written out'.held waits') result
   input_told shape bytes files all told has fresh stands going plan =
       let begun = opens.begun all told in
       let same : begun.0 ≡ bytes = some_same (all asked.input) begun.0 bytes begun.1 has in
-      turned_still asked shape files u v new closes.files closed_new (written out.held waits) (written out'.held waits') bytes (Rose t.reading_faults u.reading_faults) (Rose s.reading_faults v.reading_faults) result rose_around
+      turned_still asked shape files u v new closes.files closed_new (written out.held waits) (written out'.held waits') bytes (FailsAt t.reading_faults u.reading_faults) (FailsAgain bytes (FailsAt s.reading_faults v.reading_faults)) result (λ place fails. inl (fails_around place fails))
       (turns.told asked shape bytes files (record {
         fresh = fresh_still asked shape files s t old opens.tries.opened.files opened_same fresh;
         named = opens.tries.opened.named (subst IsSome (sym told) refl);
@@ -237,7 +238,7 @@ module _ {s t u v : ShelfState} {source source' : Sourcing} {listener : ListenSt
     written = subst (λ (n : ℕ). OnOk (wrote_all result) (v.writing_faults ≡ n)) opens.tries.opened.writing
         (subst (λ (n : ℕ). OnOk (wrote_all result) (n ≡ t.writing_faults)) (sym closes.writing) turns.writes.written);
     falls = omega (arith, opens.tries.opened.writing, turns.writes.falls, closes.writing);
-    reading = omega (arith, opens.tries.opened.reading, turns.writes.reading, closes.reading);
+    reading = omega (arith, opens.tries.opened.reading, turns.writes.reading, same_count closes.reading);
   }
 
   pub input_turned : TurnsInput asked s v listener old new out out' waits waits' result
@@ -245,7 +246,7 @@ module _ {s t u v : ShelfState} {source source' : Sourcing} {listener : ListenSt
     told = λ shape bytes files all told has shown fresh stands going plan whole. input_told shape bytes files all told has fresh stands going plan;
     slots = input_slots;
     writes = input_writes;
-    fault = λ presented is. inl (rose_around (turns.counted end.ReadFault (ap ended_turn is)));
+    fault = λ presented is. inl (around HasOneMore opens.tries.counted.ok closes.reading (turns.counted end.ReadFault (ap ended_turn is)));
     quiet = λ how is other. closes.reading ∙ quiet_end how t.reading_faults u.reading_faults other (turns.counted how is) ∙ opens.tries.counted.ok;
     asks = λ earlier was. closes.asked (earlier ++ asked.input ∷ []) (turns.asked (earlier ++ asked.input ∷ []) (opens.tries.opened.asked earlier was));
     sink = turns.sink;

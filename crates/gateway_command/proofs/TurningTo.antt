@@ -29,7 +29,7 @@ use Rattle.capture_io.specs.Writing.{Writing}
 use Rattle.capture_io.specs.Formats.{records_in}
 use Rattle.avtp_text.proofs.Printing.{prefix_before, prefix_whole}
 use Rattle.avtp_base.specs.declared.failed.Failed.{Failed}
-use Rattle.avtp_base.specs.Faults.{Rose}
+use Rattle.avtp_base.specs.Faults.{FailsAt, ReadingFaults}
 use Rattle.capture_io.specs.declared.end.End.{End}
 use Rattle.capture_io.specs.Ends.{CountsFault}
 use Rattle.listener.specs.declared.heard.Counts.{Counts}
@@ -264,7 +264,7 @@ module _ {s t : ShelfState} {first source : Sourcing} {fresh listener : ListenSt
       let told = so_far.told (names_apart to_turn) in
       let shown = told.2.shown asked.listener.limit bytes to_turn.given to_turn.stands to_turn.going in
       subst (λ (l : List Presented). IsPrefix l (batches_by asked (records_in (take asked.listener.limit bytes)) end.Whole)) (presented-append told.0 more ∙ ap (λ (l : List Presented). l ++ presented_of more) (sym told.1))
-      (batches_within (plan_of asked.listener) stage asked.listener.limit bytes (Rose s.reading_faults t.reading_faults) _ source listener (told.0 ++ more) (so_far.plan ∙ to_turn.plan) closed shown)
+      (batches_within (plan_of asked.listener) stage asked.listener.limit bytes (FailsAt s.reading_faults t.reading_faults) _ source listener (told.0 ++ more) (so_far.plan ∙ to_turn.plan) closed shown)
 
   -- the conversion was cut short before the next item
   cut_still : {now : Option (List ℕ)} (asked : Turning) (shape : Option Shape) (bytes : List ℕ) (files : Option Files) → is_closed listener ≡ closed_at stage → IsToTurn asked shape bytes files s first fresh old → Keeps (written mid.held waits') now
@@ -300,7 +300,7 @@ module _ {s t : ShelfState} {first source : Sourcing} {fresh listener : ListenSt
 module _ {s t : ShelfState} {first source : Sourcing} {fresh : ListenState} {old new : Output} {out out' : SinkState} {waits waits' : List ℕ} {how : Option End} where
   turns_by : (result : Result Turned Failed) → ReadsAndWrites s t (slot_of first) (slot_of source) old.writer.slot how (wrote_all result) → new.writer.slot ≡ old.writer.slot
       → ((files : Option Files) (name : List ℕ) → HoldsCapture files s old.writer name [] → (more : List Record) × HoldsCapture files t new.writer name more)
-      → ((asked : Turning) (shape : Option Shape) (bytes : List ℕ) (files : Option Files) → IsToTurn asked shape bytes files s first fresh old → TurnsTo asked shape bytes (Rose s.reading_faults t.reading_faults) files t new (written out.held waits) (written out'.held waits') result)
+      → ((asked : Turning) (shape : Option Shape) (bytes : List ℕ) (files : Option Files) → IsToTurn asked shape bytes files s first fresh old → TurnsTo asked shape bytes (FailsAt s.reading_faults t.reading_faults) files t new (written out.held waits) (written out'.held waits') result)
       → ((h : End) → ended_turn result ≡ Some h → CountsFault None (Some h) s.reading_faults t.reading_faults) → KeepsSink out out' result → Turns s t first source fresh old new out out' waits waits' result
   turns_by result beside slot holds told counted sink = record {
     told = told;
@@ -358,12 +358,12 @@ module _ {s t : ShelfState} {first source : Sourcing} {fresh listener : ListenSt
 -- all batches that a listener presents up to the end of the reading were put
 whole_heard : {s t : ShelfState} {first source : Sourcing} {fresh listener : ListenState} {old new : Output} {out mid : SinkState} {waits waits' : List ℕ} (how : End) (asked : Turning) (shape : Option Shape) (bytes : List ℕ) (files : Option Files) → is_closed listener ≡ closed_at (Ended how) → IsToTurn asked shape bytes files s first fresh old
     → IsPutSoFar s t first source fresh listener (Ended how) old new out mid waits waits' []
-    → HasHeard asked shape bytes (Rose s.reading_faults t.reading_faults) files t new how listener.counts.presented (written out.held waits) (written mid.held waits')
+    → HasHeard asked shape bytes (FailsAt s.reading_faults t.reading_faults) files t new how listener.counts.presented (written out.held waits) (written mid.held waits')
 whole_heard {s} {t} {source = source} {listener = listener} {old = old} {new} {out} {mid} {waits} {waits'} how asked shape bytes files closed to_turn so_far =
     let told = so_far.told (names_apart to_turn) in
     let shown = told.2.shown asked.listener.limit bytes to_turn.given to_turn.stands to_turn.going in
     let plan = plan_of asked.listener in
-    let heard = all_heard plan asked.listener.limit bytes how (Rose s.reading_faults t.reading_faults) _ source listener (told.0 ++ []) (so_far.plan ∙ to_turn.plan) closed shown in
+    let heard = all_heard plan asked.listener.limit bytes how (FailsAt s.reading_faults t.reading_faults) _ source listener (told.0 ++ []) (so_far.plan ∙ to_turn.plan) closed shown in
     let list : told.0 ≡ shown_by plan shown.records how = sym (append-nil told.0) ∙ heard.items_are in
     let read : shown_by plan shown.records how ≡ shown_by plan (records_in shown.read.prefix) how = ap (λ (rs : List Record). shown_by plan rs how) (sym shown.read.whole) in
     let all : so_far.batches ≡ batches_by asked (records_in shown.read.prefix) how = told.1 ∙ ap presented_of (list ∙ read) in
@@ -380,7 +380,7 @@ whole_heard {s} {t} {source = source} {listener = listener} {old = old} {new} {o
       counted = ap (λ (c : Counts). c.presented) heard.counted ∙ presented_count (shown_by plan shown.records how) ∙ ap (λ (l : List Shown). length (presented_of l)) read;
     }
 
-over_counted : (stage : Stage) (listener : ListenState) (h : End) (before after : ℕ) → CountsFault None (read_end stage) before after → ended_turn (Ok (turned_as (heard_at stage listener))) ≡ Some h → CountsFault None (Some h) before after
+over_counted : (stage : Stage) (listener : ListenState) (h : End) (before after : ReadingFaults) → CountsFault None (read_end stage) before after → ended_turn (Ok (turned_as (heard_at stage listener))) ≡ Some h → CountsFault None (Some h) before after
 over_counted Reading listener h before after counted is = absurd cc
 over_counted (Showing how) listener h before after counted is = absurd cc
 over_counted (Ended how) listener h before after counted is = let same : how ≡ h = cc in subst (λ (x : End). CountsFault None (Some x) before after) same counted
@@ -396,7 +396,7 @@ over_wrote NoMemory listener = refl
 module _ {s t : ShelfState} {first source : Sourcing} {fresh listener : ListenState} {old new : Output} {out out' : SinkState} {waits waits' : List ℕ} where
   over_told : (stage : Stage) → IsSome (pull_at stage) → is_closed listener ≡ closed_at stage → IsPutSoFar s t first source fresh listener stage old new out out' waits waits' []
       → (asked : Turning) (shape : Option Shape) (bytes : List ℕ) (files : Option Files) → IsToTurn asked shape bytes files s first fresh old
-      → TurnsTo asked shape bytes (Rose s.reading_faults t.reading_faults) files t new (written out.held waits) (written out'.held waits') (Ok (turned_as (heard_at stage listener)))
+      → TurnsTo asked shape bytes (FailsAt s.reading_faults t.reading_faults) files t new (written out.held waits) (written out'.held waits') (Ok (turned_as (heard_at stage listener)))
   over_told Reading over closed so_far asked shape bytes files to_turn = absurd cc
   over_told (Showing how) over closed so_far asked shape bytes files to_turn = absurd cc
   over_told (Ended how) over closed so_far asked shape bytes files to_turn = whole_heard how asked shape bytes files closed to_turn so_far

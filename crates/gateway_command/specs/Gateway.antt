@@ -1,5 +1,5 @@
 -- What `gateway` prints, how it ends, and what it makes.
-use Rattle.std.specs.Prelude.{zero, false, ℕ, codes, List, [], ◌∷◌, Option, Some, None, ◌++◌, take, length, flat_map, ◌==◌, if◌then◌else◌, ◌≡◌, ◌≢◌, ◌^◌, ◌≤◌}
+use Rattle.std.specs.Prelude.{zero, false, ℕ, codes, List, [], ◌∷◌, Option, Some, None, ◌++◌, take, length, flat_map, ◌==◌, if◌then◌else◌, ◌≡◌, ◌≢◌, ◌⊎◌, ◌^◌, ◌≤◌}
 use Rattle.am824_gateway.specs.declared.scan.To.{To}
 use Rattle.avtp_words.specs.declared.gateway.GatewayFormat.{GatewayFormat}
 use Rattle.am824_gateway.specs.declared.scan.ScanFault.{ScanFault}
@@ -17,6 +17,8 @@ use Rattle.listener.specs.Laws.{presented_of}
 use Rattle.talker.specs.Frames.{SentFrame, capture_of}
 use Rattle.am824_gateway.specs.Packets.{gateway_frames}
 use Rattle.capture_io.specs.Ends.{end_of, EndsAt}
+use Rattle.avtp_base.specs.declared.failed.FaultPlace.TheVariants as fault_place
+use Rattle.avtp_base.specs.declared.failed.FaultPlace.{FaultPlace}
 use Rattle.avtp_base.specs.Files.{Files}
 use Rattle.gateway_laws.specs.Kept.{Keeps, SkipsNone}
 use Rattle.sample_schedule.specs.Limits.{IsPlan}
@@ -191,14 +193,19 @@ pub record CanTurn (asked : Turning) (bytes : List ℕ) : Type 0 where
   pub whole : end_of asked.listener.limit bytes ≡ end.Whole
   pub none : fault_in asked (records_of asked bytes) ≡ None
 
+-- A read fault of the second reading of IN, which has these bytes: `fault` holds of its place. If IN could not be opened
+-- again, the place counts as being before the first byte.
+abbrev pub FailsAgain : List ℕ → (FaultPlace → Type 0) → FaultPlace → Type 0
+FailsAgain bytes fault place = fault place ⊎ (fault fault_place.Opening × (place ≡ fault_place.Reading (length bytes)))
+
 -- IN can be converted, and its stream has the shape `shape`. IN was read again, to its end or to a read fault.
 -- `batches` are the batches that a listener presents from the bytes that were read.
-pub record HearsInput (asked : Turning) (files : Files) (fault : Type 0) (shape : Option Shape) (batches : List Presented) (how : End) : Type 0 where
+pub record HearsInput (asked : Turning) (files : Files) (fault : FaultPlace → Type 0) (shape : Option Shape) (batches : List Presented) (how : End) : Type 0 where
   pub bytes : List ℕ
   pub prefix : List ℕ
   pub told : files asked.input ≡ Some bytes
   pub can : CanTurn asked bytes
-  pub ends : EndsAt asked.listener.limit (Some bytes) fault how prefix
+  pub ends : EndsAt asked.listener.limit (Some bytes) (FailsAgain bytes fault) how prefix
   pub shape_is : shape ≡ shape_asked asked (records_of asked bytes)
   pub presented : batches ≡ batches_by asked (records_in prefix) how
 
@@ -206,7 +213,7 @@ pub record HearsInput (asked : Turning) (files : Files) (fault : Type 0) (shape 
 -- the listener presents from OUT exactly the samples of the batches of IN that are not skipped. The presented samples
 -- have the same order, values and instants as in IN. `check` prints no finding for OUT. If the status is 0, no batch is
 -- skipped.
-pub record KeepsInput (asked : Turning) (files : Files) (fault : Type 0) (ended : Status) (capture : List ℕ) : Type 0 where
+pub record KeepsInput (asked : Turning) (files : Files) (fault : FaultPlace → Type 0) (ended : Status) (capture : List ℕ) : Type 0 where
   pub shape : Option Shape
   pub batches : List Presented
   pub how : End
@@ -222,7 +229,7 @@ pub record IsTurning (asked : Turning) : Type 0 where
   pub apart : asked.input ≢ asked.output
 
 -- what a run of `gateway` over these files did, under one of the read faults that are possible
-abbrev pub GatewayYields : Turning → Files → Type 0 → List (List ℕ) → Status → Yield → Option (List ℕ) → Type 0
+abbrev pub GatewayYields : Turning → Files → (FaultPlace → Type 0) → List (List ℕ) → Status → Yield → Option (List ℕ) → Type 0
 GatewayYields asked files fault came ended yields made =
     Halts (CanHalt asked.listener.limit (asked.input ∷ asked.input ∷ []) files fault) (gateway_report asked (files asked.input)) came ended yields made
 

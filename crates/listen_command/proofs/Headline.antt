@@ -13,6 +13,8 @@ use Rattle.listener.specs.Headline.{KeepsHeadline}
 use Rattle.listener.proofs.TrueHeadline.{headline}
 use Rattle.avtp_words.specs.Grammar.{Listening}
 use Rattle.avtp_text.specs.Notices.{read_fault_line}
+use Rattle.avtp_base.specs.declared.failed.FaultPlace.TheVariants as fault_place
+use Rattle.avtp_base.specs.declared.failed.FaultPlace.{FaultPlace}
 use Rattle.avtp_base.specs.Files.{Files}
 use Rattle.capture_io.specs.declared.end.End.TheVariants as end
 use Rattle.run_report.specs.Listener.{plan_of}
@@ -45,7 +47,7 @@ first_shown plan first others (end.Refused refusal) = whole_first plan first oth
 first_shown plan first others end.ReadFault = due_stays plan first others
 first_shown plan first others end.Limit = due_stays plan first others
 
-opened : (asked : Listening) (name bytes read : List ℕ) (fault : Type 0) (how : End) → EndsAt asked.listener.limit (Some bytes) fault how read → YieldsHeadline asked name bytes fault (heard_yield asked name (records_in read) how)
+opened : (asked : Listening) (name bytes read : List ℕ) (fault : FaultPlace → Type 0) (how : End) → EndsAt asked.listener.limit (Some bytes) fault how read → YieldsHeadline asked name bytes fault (heard_yield asked name (records_in read) how)
 opened asked name bytes read fault how ends =
     let plan : ListenPlan = plan_of asked.listener in
     record {
@@ -60,16 +62,16 @@ opened asked name bytes read fault how ends =
       whole = λ shift p all hears. subst (KeepsHeadline shift p plan (records_in read)) (sym (all_shown plan (records_in read) how all)) (headline shift p plan (records_in read) hears);
     }
 
-of_file : (asked : Listening) (files : Files) (rest : List (List ℕ)) (name bytes : List ℕ) (fault : Type 0) (halt : Halt) → files name ≡ Some bytes → CanHalt asked.listener.limit (name ∷ rest) files fault halt
-    → (fault × (file_yield (listen_report asked name) asked.listener.limit (Some bytes) halt ≡ says read_fault_line)) ⊎ YieldsHeadline asked name bytes fault (file_yield (listen_report asked name) asked.listener.limit (Some bytes) halt)
+of_file : (asked : Listening) (files : Files) (rest : List (List ℕ)) (name bytes : List ℕ) (fault : FaultPlace → Type 0) (halt : Halt) → files name ≡ Some bytes → CanHalt asked.listener.limit (name ∷ rest) files fault halt
+    → (fault fault_place.Opening × (file_yield (listen_report asked name) asked.listener.limit (Some bytes) halt ≡ says read_fault_line)) ⊎ YieldsHeadline asked name bytes fault (file_yield (listen_report asked name) asked.listener.limit (Some bytes) halt)
 of_file asked files rest name bytes fault no_halt is can = inr (opened asked name bytes (take asked.listener.limit bytes) fault (end_of asked.listener.limit bytes) (ends_here asked.listener.limit bytes fault))
 of_file asked files rest name bytes fault (not_opened zero) is can = inl (can, refl)
 of_file asked files rest name bytes fault (not_opened (suc place)) is can = inr (opened asked name bytes (take asked.listener.limit bytes) fault (end_of asked.listener.limit bytes) (ends_here asked.listener.limit bytes fault))
 of_file asked files rest name bytes fault (stopped_after zero after) is can =
-    inr (opened asked name bytes (take after bytes) fault end.ReadFault (stops_here asked.listener.limit bytes after fault can.0 (subst (λ (told : Option (List ℕ)). CanStop asked.listener.limit told after) is can.1)))
+    inr (opened asked name bytes (take after bytes) fault end.ReadFault (stops_here asked.listener.limit bytes after fault (subst (λ (told : Option (List ℕ)). CanStop asked.listener.limit told fault after) is can)))
 of_file asked files rest name bytes fault (stopped_after (suc place) after) is can = inr (opened asked name bytes (take asked.listener.limit bytes) fault (end_of asked.listener.limit bytes) (ends_here asked.listener.limit bytes fault))
 
-pub has_headline : (asked : Listening) (files : Files) (fault : Type 0) (failed : Bool) (halt : Halt) (earlier later : List (List ℕ)) (name bytes : List ℕ) → CanHalt asked.listener.limit asked.files files fault halt
+pub has_headline : (asked : Listening) (files : Files) (fault : FaultPlace → Type 0) (failed : Bool) (halt : Halt) (earlier later : List (List ℕ)) (name bytes : List ℕ) → CanHalt asked.listener.limit asked.files files fault halt
     → (plan_report (listen_plan asked) files halt).came ≡ earlier ++ name ∷ later → files name ≡ Some bytes → HasHeadline asked files fault earlier name bytes (with_devices failed (plan_report (listen_plan asked) files halt)).yields
 has_headline asked files fault failed halt earlier later name bytes can reached told =
     let plan = listen_plan asked in
@@ -80,7 +82,7 @@ has_headline asked files fault failed halt earlier later name bytes can reached 
     record {
       done = this.done;
       here = here;
-      keeps = subst (λ (it : Option (List ℕ)). (fault × (file_yield (listen_report asked name) asked.listener.limit it this.halt ≡ says read_fault_line)) ⊎ YieldsHeadline asked name bytes fault (file_yield (listen_report asked name) asked.listener.limit it this.halt)) (sym told)
+      keeps = subst (λ (it : Option (List ℕ)). (fault fault_place.Opening × (file_yield (listen_report asked name) asked.listener.limit it this.halt ≡ says read_fault_line)) ⊎ YieldsHeadline asked name bytes fault (file_yield (listen_report asked name) asked.listener.limit it this.halt)) (sym told)
           (of_file asked files this.rest name bytes fault this.halt told this.can);
       after = with_more this.after notice;
       split = ap (λ (y : Yield). with_more y notice) this.split ∙ more_more before (with_more here this.after) notice ∙ ap (with_more before) (more_more here this.after notice);

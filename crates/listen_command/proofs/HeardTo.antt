@@ -14,7 +14,7 @@ use Rattle.listener.specs.Listening.{Begins, ListenState, is_closed}
 use Rattle.capture_io.specs.Ends.{CountsFault, end_of}
 use Rattle.capture_io.specs.Source.{HasGivenOf, Sourcing, remains_of}
 use Rattle.listener.proofs.Fed.{prefix_twice}
-use Rattle.avtp_base.specs.Faults.{Rose}
+use Rattle.avtp_base.specs.Faults.{FailsAt}
 use Rattle.capture_io.specs.declared.end.End.{End}
 use Rattle.avtp_base.specs.declared.failed.Failed.{Failed}
 use Rattle.avtp_base.specs.States.{ShelfState, SinkState}
@@ -78,7 +78,7 @@ module _ {handed : List Shown → Type 0} {t u : ShelfState} {old new : Sourcing
     plan : listener.plan ≡ plan_of asked.listener
     plan = hears.shows.plan ∙ begun.plan ∙ planned
 
-    shown : (bytes : List ℕ) → HasGivenOf asked.listener.limit bytes t old [] → IsShown stage asked.listener.limit bytes (Rose t.reading_faults u.reading_faults) (remains_of u new) new listener hears.items
+    shown : (bytes : List ℕ) → HasGivenOf asked.listener.limit bytes t old [] → IsShown stage asked.listener.limit bytes (FailsAt t.reading_faults u.reading_faults) (remains_of u new) new listener hears.items
     shown bytes given = hears.shows.shown asked.listener.limit bytes given begun.stands begun.open
 
     pub items_cut : (bytes : List ℕ) → HasGivenOf asked.listener.limit bytes t old [] → IsCutYield asked handed name bytes (written h.held w) (written k.held v)
@@ -94,9 +94,9 @@ module _ {handed : List Shown → Type 0} {t u : ShelfState} {old new : Sourcing
     items_counted = subst (λ (e : Option End). CountsFault None e t.reading_faults u.reading_faults) (ap read_end (ended_stage stage listener how counts over).0) hears.shows.capture.counted
 
     pub items_told : {l : SinkState} {u' : List ℕ} {ended : Result Status Failed} → EndsWith (status_of how) k l v u' ended (last_line asked.listener.limit counts how) → (bytes : List ℕ) → HasGivenOf asked.listener.limit bytes t old []
-        → IsReadAndTold (listen_report asked name) handed asked.listener.limit bytes (Rose t.reading_faults u.reading_faults) how (written h.held w) (written l.held u') ended
+        → IsReadAndTold (listen_report asked name) handed asked.listener.limit bytes (FailsAt t.reading_faults u.reading_faults) how (written h.held w) (written l.held u') ended
     items_told ends bytes given =
-        let fault = Rose t.reading_faults u.reading_faults in
+        let fault = FailsAt t.reading_faults u.reading_faults in
         let limit = asked.listener.limit in
         let at = ended_stage stage listener how counts over in
         let whole = subst (λ (s : Stage). IsShown s limit bytes fault (remains_of u new) new listener hears.items) at.0 (shown hears closed bytes given) in

@@ -15,6 +15,8 @@ use Rattle.packet_journal.specs.Packets.{PacketJournal}
 use Rattle.listener.specs.Headline.{KeepsHeadline}
 use Rattle.listener.specs.Laws.{HearsTalker}
 use Rattle.listener_laws.specs.Fronts.{IsTrueFront}
+use Rattle.avtp_base.specs.declared.failed.FaultPlace.TheVariants as fault_place
+use Rattle.avtp_base.specs.declared.failed.FaultPlace.{FaultPlace}
 use Rattle.avtp_base.specs.Files.{Files}
 use Rattle.sample_schedule.specs.Limits.{IsPlan as IsSchedulePlan}
 use Rattle.capture_io.specs.declared.end.End.TheVariants as end
@@ -68,7 +70,7 @@ is_cut_short end.Limit = true
 
 -- What an opened capture yields: the text and the items of the records that were read. Suppose that a talker that keeps
 -- the rules sent a prefix of these records. Then the items that are shown of this prefix are as the headline says.
-pub record YieldsHeadline (asked : Listening) (name bytes : List ℕ) (fault : Type 0) (yields : Yield) : Type 0 where
+pub record YieldsHeadline (asked : Listening) (name bytes : List ℕ) (fault : FaultPlace → Type 0) (yields : Yield) : Type 0 where
   -- how the reading ended, and the bytes that were read before it ended
   pub how : End
   pub read : List ℕ
@@ -86,10 +88,10 @@ pub record YieldsHeadline (asked : Listening) (name bytes : List ℕ) (fault : T
 -- What a run yields, in three parts: first what the earlier files yield, all of which were read to their ends; then
 -- `here`, what the file `name` yields; then `after`, what the later files yield. `here` is the line of a read fault if
 -- the file could not be opened, otherwise what the headline says.
-pub record HasHeadline (asked : Listening) (files : Files) (fault : Type 0) (earlier : List (List ℕ)) (name bytes : List ℕ) (yields : Yield) : Type 0 where
+pub record HasHeadline (asked : Listening) (files : Files) (fault : FaultPlace → Type 0) (earlier : List (List ℕ)) (name bytes : List ℕ) (yields : Yield) : Type 0 where
   pub done : is_done (in_order_status (one_status (listen_plan asked) files) no_halt earlier) ≡ true
   pub here : Yield
-  pub keeps : (fault × (here ≡ says read_fault_line)) ⊎ YieldsHeadline asked name bytes fault here
+  pub keeps : (fault fault_place.Opening × (here ≡ says read_fault_line)) ⊎ YieldsHeadline asked name bytes fault here
   pub after : Yield
   pub split : yields ≡ with_more (in_order_yield (one_status (listen_plan asked) files) (one_yield (listen_plan asked) files) no_halt earlier) (with_more here after)
 

@@ -3,7 +3,9 @@ use Rattle.std.proofs.Common.{◌≡◌, ◌≢◌, ℕ, ◌^◌, ◌≤◌, [],
 use Rattle.std.specs.Prelude.{◌⊎◌}
 use Rattle.std.proofs.lemmas.Bool.{cases_Bool, le-leb, leb-true}
 use Rattle.std.proofs.lemmas.List.{take_all}
-use Rattle.avtp_base.specs.Faults.{Rose}
+use Rattle.avtp_base.specs.declared.failed.FaultPlace.TheVariants as fault_place
+use Rattle.avtp_base.specs.declared.failed.FaultPlace.{FaultPlace}
+use Rattle.avtp_base.specs.Faults.{FailsAt}
 use Rattle.avtp_base.specs.Files.{Files}
 use Rattle.avtp_base.specs.declared.refusal.Refusal.{Refusal}
 use Rattle.pcap_frames.specs.Capture.{Record, first_refusal, whole_records}
@@ -91,10 +93,10 @@ shown_whole : (asked : Listening) (bytes read : List ℕ) (how : End) → how �
     → shown_by (plan_of asked.listener) (records_in read) how ≡ shown_of (plan_of asked.listener) (records_in bytes)
 shown_whole asked bytes read how is same = rw (is, same) refl
 
-kept : (asked : Listening) (name bytes : List ℕ) (fault : Type 0) (here : Yield) (p : PacketJournal) → (fault → ⊥) → end_of asked.listener.limit bytes ≡ end.Whole → take asked.listener.limit bytes ≡ bytes
-    → HearsTalker (pos 0) p (plan_of asked.listener) (records_in bytes) → (fault × (here ≡ says read_fault_line)) ⊎ YieldsHeadline asked name bytes fault here
+kept : (asked : Listening) (name bytes : List ℕ) (fault : FaultPlace → Type 0) (here : Yield) (p : PacketJournal) → ((place : FaultPlace) → fault place → ⊥) → end_of asked.listener.limit bytes ≡ end.Whole → take asked.listener.limit bytes ≡ bytes
+    → HearsTalker (pos 0) p (plan_of asked.listener) (records_in bytes) → (fault fault_place.Opening × (here ≡ says read_fault_line)) ⊎ YieldsHeadline asked name bytes fault here
     → KeepsHeadline (pos 0) p (plan_of asked.listener) (records_in bytes) (shown_of (plan_of asked.listener) (records_in bytes))
-kept asked name bytes fault here p none ends taken hears (inl came) = absurd (none came.0)
+kept asked name bytes fault here p none ends taken hears (inl came) = absurd (none _ came.0)
 kept asked name bytes fault here p none ends taken hears (inr yields) =
     let at = by_end asked.listener.limit bytes yields.read fault yields.how none yields.ends in
     let how : yields.how ≡ end.Whole = at.0 ∙ ends in
@@ -147,7 +149,7 @@ gives_all plan input packets word name files after handed still failed id named 
     record {
       items = shown_of (default_listener plan.id) (records_in bytes);
       given = subst handed items whole.2;
-      headline = kept asked name bytes (Rose ran.shelf.reading_faults ran.shelf'.reading_faults) headline.here (journal plan input) none how taken hears headline.keeps;
+      headline = kept asked name bytes (FailsAt ran.shelf.reading_faults ran.shelf'.reading_faults) headline.here (journal plan input) none how taken hears headline.keeps;
       all = subst (λ (records : List Record). ArePresented false (journal plan input) packets (shown_of (default_listener plan.id) records))
           (sym (records_by Classic bytes (is_classic bytes (accepted_classic bytes sound)))) presented;
     }

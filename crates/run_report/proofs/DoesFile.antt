@@ -2,7 +2,8 @@
 use Rattle.std.proofs.Common.{ℕ, List, [], Result, Err, inl, inr, Option, ◌≡◌, sym, subst, ◌≤◌, ◌∷◌, Some, None, Ok}
 use Rattle.avtp_base.specs.declared.failed.Failed.{Failed}
 use Rattle.avtp_base.specs.declared.failed.OpenFault.{OpenFault}
-use Rattle.avtp_base.specs.Faults.{Rose}
+use Rattle.avtp_base.specs.Faults.{FailsAt, ReadingFaults}
+use Rattle.avtp_base.specs.declared.failed.FaultPlace.{FaultPlace}
 use Rattle.avtp_base.specs.States.{ShelfState, SinkState}
 use Rattle.capture_io.specs.Reads.{TriesOpen, OnlyReads, ReadsSlot}
 use Rattle.avtp_text.specs.Notices.{read_fault_line}
@@ -26,8 +27,8 @@ pub does_unopened : {T : Type 0} {slot : T → ℕ} {s t : ShelfState} {h h' : S
     → handed [] → TriesOpen slot s t name (Err fault) → EndsUnopened fault h h' l l' result → DoesFile report handed limit name s t h h' l l' result
 does_unopened {T} {s = s} {t} {h} {h'} {l} {l'} {name} report limit fault none tries ends = record {
   tells = λ all told.
-      tells_unopened {T = T} fault s.reading_faults t.reading_faults s.files name (file_status report limit (all name) no_halt) (file_yield report limit (all name) no_halt) (yield_telling (written h.held l) (written h'.held l') read_fault_line none) (file_here report limit (all name) (Rose s.reading_faults t.reading_faults))
-      (λ cause. file_fault report limit (all name) (Rose s.reading_faults t.reading_faults) (elim cause [ inl rose ↦ inl rose | inr gone ↦ inr (missing_none s.files name all told gone) ])) tries.counted tries.missing ends;
+      tells_unopened {T = T} fault s.reading_faults t.reading_faults s.files name (file_status report limit (all name) no_halt) (file_yield report limit (all name) no_halt) (yield_telling (written h.held l) (written h'.held l') read_fault_line none) (file_here report limit (all name) (FailsAt s.reading_faults t.reading_faults))
+      (λ cause. file_fault report limit (all name) (FailsAt s.reading_faults t.reading_faults) (elim cause [ inl rose ↦ inl rose | inr gone ↦ inr (missing_none s.files name all told gone) ])) tries.counted tries.missing ends;
   keeps = tries.refused;
   counts = counts_unopened {T = T} fault s.reading_faults t.reading_faults s.files name tries.counted tries.missing ends;
   own = unopened_own fault ends;
@@ -36,13 +37,13 @@ does_unopened {T} {s = s} {t} {h} {h'} {l} {l'} {name} report limit fault none t
 
 -- The records of a file were read until the reading ended; `how` says how it ended. The report on these records was
 -- printed, and its items were given to devices.
-pub record IsReadAndTold (report : Report) (handed : List Shown → Type 0) (limit : ℕ) (bytes : List ℕ) (fault : Type 0) (how : End) (before now : Option (List ℕ)) (result : Result Status Failed) : Type 0 where
+pub record IsReadAndTold (report : Report) (handed : List Shown → Type 0) (limit : ℕ) (bytes : List ℕ) (fault : FaultPlace → Type 0) (how : End) (before now : Option (List ℕ)) (result : Result Status Failed) : Type 0 where
   pub records : List Record
   pub ends : EndsAfter limit bytes fault how records
   pub tells : TellsYield (Only (report.status records how) (report.yields records how)) handed before now result
 
-pub around : {r r' q' q : ℕ} (P : ℕ → ℕ → Type 0) → r' ≡ r → q ≡ q' → P r' q' → P r q
-around {r' = r'} {q = q} P first last p = subst (λ (n : ℕ). P n q) first (subst (P r') (sym last) p)
+pub around : {r r' q' q : ReadingFaults} (P : ReadingFaults → ReadingFaults → Type 0) → r' ≡ r → q ≡ q' → P r' q' → P r q
+around {r' = r'} {q = q} P first last p = subst (λ (faults : ReadingFaults). P faults q) first (subst (P r') (sym last) p)
 
 -- a file was opened, read and closed again
 module _ {s t u v : ShelfState} {source : Sourcing} {k limit : ℕ} {name : List ℕ} (report : Report) (opened : OpensSource s t limit name (Ok source)) (reads : ReadsSlot t u (slot_of source) k) (closes : ClosesSlot u v k) where
@@ -50,8 +51,8 @@ module _ {s t u v : ShelfState} {source : Sourcing} {k limit : ℕ} {name : List
   kept = read_through opened.tries.opened reads closes
 
   pub does_read : {h h' : SinkState} {l l' : List ℕ} {handed : List Shown → Type 0} (how : End) (result : Result Status Failed) → CountsFault None (Some how) t.reading_faults u.reading_faults
-      → ((bytes : List ℕ) → HasGivenOf limit bytes t source [] → IsReadAndTold report handed limit bytes (Rose t.reading_faults u.reading_faults) how (written h.held l) (written h'.held l') result)
-      → (s.reading_faults ≤ v.reading_faults → CountsFault None (Some how) s.reading_faults v.reading_faults → CountsReading (name ∷ []) s.files s.reading_faults v.reading_faults result)
+      → ((bytes : List ℕ) → HasGivenOf limit bytes t source [] → IsReadAndTold report handed limit bytes (FailsAt t.reading_faults u.reading_faults) how (written h.held l) (written h'.held l') result)
+      → (s.reading_faults.count ≤ v.reading_faults.count → CountsFault None (Some how) s.reading_faults v.reading_faults → CountsReading (name ∷ []) s.files s.reading_faults v.reading_faults result)
       → IsReadingStatus result → KeepsSink h h' result → DoesFile report handed limit name s v h h' l l' result
   does_read how result counted told counts own sink =
       let opening = opened.tries.counted.ok in
@@ -59,7 +60,7 @@ module _ {s t u v : ShelfState} {source : Sourcing} {k limit : ℕ} {name : List
         tells = λ all is.
             let bytes = opened.begun all is in
             let read = told bytes.0 bytes.2 in
-            tells_weaker (file_read report limit bytes.0 (all name) (Rose t.reading_faults u.reading_faults) (Rose s.reading_faults v.reading_faults) how read.records (around Rose opening closes.reading) bytes.1 read.ends) read.tells;
+            tells_weaker (file_read report limit bytes.0 (all name) (FailsAt t.reading_faults u.reading_faults) (FailsAt s.reading_faults v.reading_faults) how read.records (λ place. around (λ before after. FailsAt before after place) opening closes.reading) bytes.1 read.ends) read.tells;
         keeps = kept;
         counts = counts kept.reading (around (CountsFault None (Some how)) opening closes.reading counted);
         own = own;
@@ -68,12 +69,12 @@ module _ {s t u v : ShelfState} {source : Sourcing} {k limit : ℕ} {name : List
 
   pub does_cut : {h h' : SinkState} {l l' : List ℕ} {handed : List Shown → Type 0} (result : Result Status Failed)
       → ((bytes : List ℕ) → HasGivenOf limit bytes t source [] → GivesPart handed (written h.held l) (written h'.held l') (file_yield report limit (Some bytes) no_halt)) → IsCut result
-      → (s.reading_faults ≤ v.reading_faults → CountsReading (name ∷ []) s.files s.reading_faults v.reading_faults result) → IsReadingStatus result → KeepsSink h h' result → DoesFile report handed limit name s v h h' l l' result
+      → (s.reading_faults.count ≤ v.reading_faults.count → CountsReading (name ∷ []) s.files s.reading_faults v.reading_faults result) → IsReadingStatus result → KeepsSink h h' result → DoesFile report handed limit name s v h h' l l' result
   does_cut {h} {h'} {l} {l'} {handed} result part cut counts own sink = record {
     tells = λ all is.
         let bytes = opened.begun all is in
         let given = subst (λ (told : Option (List ℕ)). GivesPart handed (written h.held l) (written h'.held l') (file_yield report limit told no_halt)) (sym bytes.1) (part bytes.0 bytes.2) in
-        tells_cut (file_status report limit (all name) no_halt) (file_yield report limit (all name) no_halt) (file_here report limit (all name) (Rose s.reading_faults v.reading_faults)) cut given;
+        tells_cut (file_status report limit (all name) no_halt) (file_yield report limit (all name) no_halt) (file_here report limit (all name) (FailsAt s.reading_faults v.reading_faults)) cut given;
     keeps = kept;
     counts = counts kept.reading;
     own = own;

@@ -6,6 +6,7 @@ use Rattle.avtp_base.specs.declared.failed.Failed.{Failed}
 use Rattle.avtp_base.specs.States.{Asks, ShelfState}
 use Rattle.sample_schedule.specs.declared.shown.Shown.{Shown}
 use Rattle.avtp_base.specs.Files.{Files}
+use Rattle.avtp_base.specs.declared.failed.FaultPlace.{FaultPlace}
 use Rattle.run_report.specs.declared.status.Status.{Status}
 use Rattle.run_report.specs.Reading.{FileOutcome, joined, in_order_read, in_order_status, in_order_yield, one_status, one_yield, PlanOutcome, plan_report, ReadPlan, file_status}
 use Rattle.run_report.specs.Outcome.{is_done, IsDone, TellsRun, TellsYield}
@@ -14,7 +15,7 @@ use Rattle.run_report.proofs.Yields.{more_more, more_none, gives_then, Joins, pa
 use Rattle.run_report.proofs.RunReports.{same_run}
 use Rattle.run_report.specs.RunReport.{run_of}
 use Rattle.run_report.specs.Reading.FileOutcome.{through, refused, halted}
-use Rattle.run_report.specs.Halt.{Halt, CanHalt, past_first, no_halt, not_opened, stopped_after}
+use Rattle.run_report.specs.Halt.{Halt, CanHalt, CanStop, past_first, no_halt, not_opened, stopped_after}
 use Rattle.capture_io.specs.declared.end.End.TheVariants as end
 use Rattle.capture_io.specs.Formats.{records_in}
 use Rattle.pcap_frames.specs.Capture.{Record}
@@ -89,7 +90,7 @@ later_past no_halt = refl
 later_past (not_opened place) = refl
 later_past (stopped_after place after) = refl
 
-later_can : (limit : ℕ) (name : List ℕ) (names : List (List ℕ)) (files : Files) (fault : Type 0) (halt : Halt) → CanHalt limit names files fault halt → CanHalt limit (name ∷ names) files fault (one_later halt)
+later_can : (limit : ℕ) (name : List ℕ) (names : List (List ℕ)) (files : Files) (fault : FaultPlace → Type 0) (halt : Halt) → CanHalt limit names files fault halt → CanHalt limit (name ∷ names) files fault (one_later halt)
 later_can limit name names files fault no_halt can = can
 later_can limit name names files fault (not_opened place) can = can
 later_can limit name names files fault (stopped_after place after) can = can
@@ -116,36 +117,40 @@ unfolding later_by
 by_none [] = refl
 by_none (name ∷ names) = ap one_later (by_none names)
 
-by_can : (limit : ℕ) (names more : List (List ℕ)) (files : Files) (fault : Type 0) (halt : Halt) → CanHalt limit more files fault halt → CanHalt limit (names ++ more) files fault (later_by names halt)
+by_can : (limit : ℕ) (names more : List (List ℕ)) (files : Files) (fault : FaultPlace → Type 0) (halt : Halt) → CanHalt limit more files fault halt → CanHalt limit (names ++ more) files fault (later_by names halt)
 unfolding later_by
 by_can limit [] more files fault halt can = can
 by_can limit (name ∷ names) more files fault halt can = later_can limit name (names ++ more) files fault (later_by names halt) (by_can limit names more files fault halt can)
 
+never_stops : (limit : ℕ) (told : Option (List ℕ)) (fault : FaultPlace → Type 0) (after : ℕ) → ((place : FaultPlace) → fault place → ⊥) → CanStop limit told fault after → ⊥
+never_stops limit None fault after none can = can
+never_stops limit (Some bytes) fault after none can = none _ can.0
+
 -- without a read fault, no read fault ended the run
-pub never_halts : (limit : ℕ) (names : List (List ℕ)) (files : Files) (fault : Type 0) (halt : Halt) → (fault → ⊥) → CanHalt limit names files fault halt → halt ≡ no_halt
+pub never_halts : (limit : ℕ) (names : List (List ℕ)) (files : Files) (fault : FaultPlace → Type 0) (halt : Halt) → ((place : FaultPlace) → fault place → ⊥) → CanHalt limit names files fault halt → halt ≡ no_halt
 never_halts limit names files fault no_halt none can = refl
 never_halts limit [] files fault (not_opened place) none can = absurd can
 never_halts limit [] files fault (stopped_after place after) none can = absurd can
-never_halts limit (name ∷ names) files fault (not_opened zero) none can = absurd (none can)
-never_halts limit (name ∷ names) files fault (stopped_after zero after) none can = absurd (none can.0)
+never_halts limit (name ∷ names) files fault (not_opened zero) none can = absurd (none _ can)
+never_halts limit (name ∷ names) files fault (stopped_after zero after) none can = absurd (never_stops limit (files name) fault after none can)
 never_halts limit (name ∷ names) files fault (not_opened (suc place)) none can = absurd (let e = never_halts limit names files fault (not_opened place) none can in cc)
 never_halts limit (name ∷ names) files fault (stopped_after (suc place) after) none can = absurd (let e = never_halts limit names files fault (stopped_after place after) none can in cc)
 
 -- the possible outcomes of the file with this name, given the files of a shelf
-abbrev pub one_outcome : ReadPlan → Files → Type 0 → List ℕ → Status → Yield → Type 0
+abbrev pub one_outcome : ReadPlan → Files → (FaultPlace → Type 0) → List ℕ → Status → Yield → Type 0
 one_outcome plan files fault name ended yields = FileOutcome (plan.report name) plan.limit (files name) fault ended yields
 
 -- A file's outcome, under one of the read faults that are possible if the file is the first of a run.
-pub record FileAt (plan : ReadPlan) (files : Files) (fault : Type 0) (name : List ℕ) (ended : Status) (yields : Yield) : Type 0 where
+pub record FileAt (plan : ReadPlan) (files : Files) (fault : FaultPlace → Type 0) (name : List ℕ) (ended : Status) (yields : Yield) : Type 0 where
   pub halt : Halt
   pub can : (rest : List (List ℕ)) → CanHalt plan.limit (name ∷ rest) files fault halt
   pub ended_is : ended ≡ one_status plan files halt name
   pub yields_is : yields ≡ one_yield plan files halt name
 
-pub file_at : (plan : ReadPlan) (files : Files) (fault : Type 0) (name : List ℕ) (ended : Status) (yields : Yield) → one_outcome plan files fault name ended yields → FileAt plan files fault name ended yields
+pub file_at : (plan : ReadPlan) (files : Files) (fault : FaultPlace → Type 0) (name : List ℕ) (ended : Status) (yields : Yield) → one_outcome plan files fault name ended yields → FileAt plan files fault name ended yields
 file_at plan files fault name ended yields (through is all) = record { halt = no_halt; can = λ rest. tt; ended_is = is; yields_is = all }
 file_at plan files fault name ended yields (refused cause is all) = record { halt = not_opened zero; can = λ rest. cause; ended_is = is; yields_is = all }
-file_at plan files fault name ended yields (halted after cause can is all) = record { halt = stopped_after zero after; can = λ rest. (cause, can); ended_is = is; yields_is = all }
+file_at plan files fault name ended yields (halted after can is all) = record { halt = stopped_after zero after; can = λ rest. can; ended_is = is; yields_is = all }
 
 -- ---- files that are read to their ends, and the files after them
 
@@ -196,7 +201,7 @@ pub record IsReadTo (plan : ReadPlan) (handed : List Shown → Type 0) (files : 
   pub ended_is : ended ≡ in_order_status (one_status plan files) no_halt names
   pub gives : Gives handed old now (in_order_yield (one_status plan files) (one_yield plan files) no_halt names)
 
-pub tells_done : {earlier handed all_handed : List Shown → Type 0} (before mid now : Option (List ℕ)) (plan : ReadPlan) (files : Files) (fault : Type 0) (names : List (List ℕ)) (name : List ℕ) (so_far ended : Status) → StopsAll plan → Joins earlier handed all_handed
+pub tells_done : {earlier handed all_handed : List Shown → Type 0} (before mid now : Option (List ℕ)) (plan : ReadPlan) (files : Files) (fault : FaultPlace → Type 0) (names : List (List ℕ)) (name : List ℕ) (so_far ended : Status) → StopsAll plan → Joins earlier handed all_handed
     → is_done so_far ≡ true → is_done ended ≡ true → IsReadTo plan earlier files names so_far before mid → TellsYield (one_outcome plan files fault name) handed mid now (Ok ended) → IsReadTo plan all_handed files (names ++ name ∷ []) (joined so_far ended) before now
 tells_done {all_handed = all_handed} before mid now plan files fault names name so_far ended stops join done goes to t =
     let one = one_status plan files in
@@ -218,7 +223,7 @@ tells_done {all_handed = all_handed} before mid now plan files fault names name 
     not_write : (s : Status) → is_done s ≡ true → s ≢ status.WriteFault
     not_write s goes e = let t : false ≡ true = ap is_done (sym e) ∙ goes in cc
 
-pub tells_stopped : {a b : ShelfState} {before mid now : Option (List ℕ)} {earlier handed all_handed : List Shown → Type 0} {result : Result Status Failed} (plan : ReadPlan) (files : Files) (fault : Type 0) (names rest : List (List ℕ)) (name : List ℕ) (so_far : Status)
+pub tells_stopped : {a b : ShelfState} {before mid now : Option (List ℕ)} {earlier handed all_handed : List Shown → Type 0} {result : Result Status Failed} (plan : ReadPlan) (files : Files) (fault : FaultPlace → Type 0) (names rest : List (List ℕ)) (name : List ℕ) (so_far : Status)
     → Joins earlier handed all_handed → plan.names ≡ names ++ name ∷ rest → is_done so_far ≡ true → IsReadTo plan earlier files names so_far before mid → TellsYield (one_outcome plan files fault name) handed mid now result → (IsDone result → ⊥) → Asks (names ++ name ∷ []) a b
     → TellsRun (PlanOutcome plan files fault) all_handed a b before now result
 unfolding in_order_read in_order_status in_order_yield
@@ -270,7 +275,7 @@ tells_stopped {a} {b} {before} {mid} {now} {earlier} {handed} {all_handed} {resu
 
 -- ---- a file among the files that a run reached
 
-past_can : (limit : ℕ) (name : List ℕ) (names : List (List ℕ)) (files : Files) (fault : Type 0) (halt : Halt) → CanHalt limit (name ∷ names) files fault halt → CanHalt limit names files fault (past_first halt)
+past_can : (limit : ℕ) (name : List ℕ) (names : List (List ℕ)) (files : Files) (fault : FaultPlace → Type 0) (halt : Halt) → CanHalt limit (name ∷ names) files fault halt → CanHalt limit names files fault (past_first halt)
 past_can limit name names files fault no_halt can = can
 past_can limit name names files fault (not_opened zero) can = tt
 past_can limit name names files fault (not_opened (suc place)) can = can
@@ -280,7 +285,7 @@ past_can limit name names files fault (stopped_after (suc place) after) can = ca
 -- What a run yields, in three parts: first what the earlier files yield, all of which are done, then what the file
 -- `name` yields, then what the later files yield. `halt` is the run's read fault, with places counted from the file
 -- `name` on.
-pub record IsAmong (plan : ReadPlan) (files : Files) (fault : Type 0) (earlier : List (List ℕ)) (name : List ℕ) (yields : Yield) : Type 0 where
+pub record IsAmong (plan : ReadPlan) (files : Files) (fault : FaultPlace → Type 0) (earlier : List (List ℕ)) (name : List ℕ) (yields : Yield) : Type 0 where
   pub halt : Halt
   pub rest : List (List ℕ)
   pub can : CanHalt plan.limit (name ∷ rest) files fault halt
@@ -292,7 +297,7 @@ none_after : (earlier later : List (List ℕ)) (name : List ℕ) → [] ≡ earl
 none_after [] later name e = absurd cc
 none_after (other ∷ earlier) later name e = absurd cc
 
-pub among : (plan : ReadPlan) (files : Files) (fault : Type 0) → StopsAll plan → (halt : Halt) (names earlier later : List (List ℕ)) (name : List ℕ) → CanHalt plan.limit names files fault halt
+pub among : (plan : ReadPlan) (files : Files) (fault : FaultPlace → Type 0) → StopsAll plan → (halt : Halt) (names earlier later : List (List ℕ)) (name : List ℕ) → CanHalt plan.limit names files fault halt
     → in_order_read (one_status plan files) halt names ≡ earlier ++ name ∷ later → IsAmong plan files fault earlier name (in_order_yield (one_status plan files) (one_yield plan files) halt names)
 unfolding in_order_read in_order_status in_order_yield
 among plan files fault stops halt [] earlier later name can came = absurd (none_after earlier later name came)

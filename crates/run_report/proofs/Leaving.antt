@@ -1,6 +1,6 @@
 -- What is unchanged after calls that read.
 use Rattle.std.proofs.Common.{ℕ, sym, subst, Result, Ok, Err, List, [], ◌∷◌, ◌≡◌, Option, Some, None, ◌+◌, ◌^◌, ◌≤◌, refl, arith, ◌∙◌, true, ap, false}
-use Rattle.std.specs.Prelude.{IsSome, IsErr, IfOk}
+use Rattle.std.specs.Prelude.{◌≢◌, IsSome, IsErr, IfOk}
 use Rattle.avtp_base.specs.States.{ShelfState}
 use Rattle.capture_io.specs.Reads.{ReadsSlot, OnlyReads, OpensSlot}
 use Rattle.avtp_base.specs.declared.failed.Failed.{Failed}
@@ -10,7 +10,7 @@ use Rattle.capture_io.specs.declared.end.End.{End}
 use Rattle.capture_io.specs.Ends.{CountsFault}
 use Rattle.capture_io.specs.Source.{Sourcing, slot_of, to_do, EndsAfter, GivesNext, HasGivenOf}
 use Rattle.pcap_frames.specs.Capture.{Record}
-use Rattle.avtp_base.specs.Faults.{Rose}
+use Rattle.avtp_base.specs.Faults.{FailsAt, ReadingFaults}
 use Rattle.capture_io.proofs.Ending.{after_weaker}
 use Rattle.capture_io.specs.declared.end.End.TheVariants as end
 use Rattle.run_report.specs.Reading.{IsOpen, ReadsCapture, IsReadingStatus, is_of_reading}
@@ -30,12 +30,22 @@ pub read_through : {s t u v : ShelfState} {name : List ℕ} {k j : ℕ}
     → OpensSlot s t name k → ReadsSlot t u k j → ClosesSlot u v j → OnlyReads s v (name ∷ [])
 read_through {s} {t} {u} {v} {name} {k} {j} opens reads closes = only_reads_closed s u v name k (opens_then s t u name k j opens reads) (subst (ClosesSlot u v) reads.slot closes)
 
-pub ended_so : (ended : Option End) (how : End) (before after : ℕ) → ended ≡ None → CountsFault ended (Some how) before after → CountsFault None (Some how) before after
+pub ended_so : (ended : Option End) (how : End) (before after : ReadingFaults) → ended ≡ None → CountsFault ended (Some how) before after → CountsFault None (Some how) before after
 ended_so ended how before after none counts = subst (λ (e : Option End). CountsFault e (Some how) before after) none counts
 
+pub same_count : {before after : ReadingFaults} → after ≡ before → after.count ≡ before.count
+same_count same = ap (λ (faults : ReadingFaults). faults.count) same
+
 -- if one more record was read, no read fault was counted
-pub quiet_next : (ended result : Option End) (before after : ℕ) → ended ≡ None → result ≡ None → CountsFault ended result before after → after ≡ before
+pub quiet_next : (ended result : Option End) (before after : ReadingFaults) → ended ≡ None → result ≡ None → CountsFault ended result before after → after ≡ before
 quiet_next ended result before after none more counts = subst (λ (r : Option End). CountsFault None r before after) more (subst (λ (e : Option End). CountsFault e result before after) none counts)
+
+-- if the reading did not end with a read fault, no read fault was counted
+pub quiet_end : (how : End) (before after : ReadingFaults) → how ≢ end.ReadFault → CountsFault None (Some how) before after → after ≡ before
+quiet_end end.Whole before after other counts = counts
+quiet_end (end.Refused refusal) before after other counts = counts
+quiet_end end.ReadFault before after other counts = absurd (other refl)
+quiet_end end.Limit before after other counts = counts
 
 -- ---- an open capture between two of its records
 
@@ -61,12 +71,12 @@ module _ {s t u : ShelfState} {first old new : Sourcing} {frames : ℕ} where
   pub amid_over : (how : End) → IsAmid s t first old frames → GivesNext t u old new (Some how) → ReadsCapture s u (slot_of first) (slot_of new) (Some how)
   amid_over how amid next = record {
     reads = reads_then amid.reads next.reads;
-    counted = subst (λ (n : ℕ). CountsFault None (Some how) n u.reading_faults) amid.reading (ended_so old.ended how t.reading_faults u.reading_faults amid.going next.counted);
+    counted = subst (λ (faults : ReadingFaults). CountsFault None (Some how) faults u.reading_faults) amid.reading (ended_so old.ended how t.reading_faults u.reading_faults amid.going next.counted);
   }
 
-  pub amid_ends : (how : End) (limit : ℕ) (bytes : List ℕ) (records : List Record) → IsAmid s t first old frames → GivesNext t u old new (Some how) → HasGivenOf limit bytes t old records → EndsAfter limit bytes (Rose s.reading_faults u.reading_faults) how records
+  pub amid_ends : (how : End) (limit : ℕ) (bytes : List ℕ) (records : List Record) → IsAmid s t first old frames → GivesNext t u old new (Some how) → HasGivenOf limit bytes t old records → EndsAfter limit bytes (FailsAt s.reading_faults u.reading_faults) how records
   amid_ends how limit bytes records amid next given =
-      after_weaker limit bytes (Rose t.reading_faults u.reading_faults) (Rose s.reading_faults u.reading_faults) how records (λ rose. subst (λ (n : ℕ). Rose n u.reading_faults) amid.reading rose) (next.ends limit bytes records given)
+      after_weaker limit bytes (FailsAt t.reading_faults u.reading_faults) (FailsAt s.reading_faults u.reading_faults) how records (λ place. subst (λ (faults : ReadingFaults). FailsAt faults u.reading_faults place) amid.reading) (next.ends limit bytes records given)
 
 pub amid_cut : {s t : ShelfState} {first old : Sourcing} {frames : ℕ} → IsAmid s t first old frames → ReadsCapture s t (slot_of first) (slot_of old) None
 amid_cut amid = record { reads = amid.reads; counted = amid.reading }

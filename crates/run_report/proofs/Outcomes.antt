@@ -5,7 +5,8 @@ use Rattle.std.proofs.lemmas.List.{append-nil}
 use Rattle.avtp_base.specs.States.{SinkState}
 use Rattle.avtp_text.proofs.Growth.{grows_none, grows_further}
 use Rattle.avtp_base.specs.declared.failed.Failed.{Failed}
-use Rattle.avtp_base.specs.Faults.{IsCounted, Rose, IsOpenCounted}
+use Rattle.avtp_base.specs.Faults.{FailsAt, HasOneMore, IsCounted, IsOpeningCounted, ReadingFaults}
+use Rattle.avtp_base.specs.declared.failed.FaultPlace.TheVariants as fault_place
 use Rattle.avtp_text.specs.Written.{Prints, PrintsPart, AppendsPrefix, written}
 use Rattle.avtp_base.specs.Told.{Appends, Keeps}
 use Rattle.avtp_text.proofs.Printing.{prefix_none, prefix_whole}
@@ -119,11 +120,11 @@ tells_weaker weaker t = record { ended = t.ended; yields = t.yields; outcome = w
 
 -- ---- a file that could not be opened
 
--- Why a file was not opened, if memory did not run out: the count of reading faults rose, or the file is missing.
-abbrev pub Unopened : ℕ → ℕ → Option Files → List ℕ → Type 0
-Unopened before after files name = Rose before after ⊎ IsMissing files name
+-- Why a file was not opened, if memory did not run out: a reading fault was counted, or the file is missing.
+abbrev pub Unopened : ReadingFaults → ReadingFaults → Option Files → List ℕ → Type 0
+Unopened before after files name = FailsAt before after fault_place.Opening ⊎ IsMissing files name
 
-cause_of : {T : Type 0} (fault : OpenFault) (before after : ℕ) (files : Option Files) (name : List ℕ) → fault ≢ open_fault.Memory → IsOpenCounted {T = T} before after (Err fault)
+cause_of : {T : Type 0} (fault : OpenFault) (before after : ReadingFaults) (files : Option Files) (name : List ℕ) → fault ≢ open_fault.Memory → IsOpeningCounted {T = T} before after (Err fault)
     → (IsErrOf {T = T} (Err fault) open_fault.Missing → IsMissing files name) → Unopened before after files name
 cause_of open_fault.Missing before after files name other counts missing = inr (missing refl)
 cause_of open_fault.Failed before after files name other counts missing = inl (counts.failed refl)
@@ -139,9 +140,9 @@ pub missing_none : (files : Option Files) (name : List ℕ) (all : Files) → fi
 missing_none None name all told missing = absurd missing
 missing_none (Some files) name all told missing = let same : files ≡ all = cc in subst (λ (m : Files). m name ≡ None) same missing
 
-pub tells_unopened : {T Y : Type 0} {Outcome : Status → Y → Type 0} {Whole Part : Y → Type 0} {h h' : SinkState} {w w' : List ℕ} {result : Result Status Failed} {one : Y} (fault : OpenFault) (before after : ℕ) (files : Option Files) (name : List ℕ) (ended : Status) (yields : Y)
+pub tells_unopened : {T Y : Type 0} {Outcome : Status → Y → Type 0} {Whole Part : Y → Type 0} {h h' : SinkState} {w w' : List ℕ} {result : Result Status Failed} {one : Y} (fault : OpenFault) (before after : ReadingFaults) (files : Option Files) (name : List ℕ) (ended : Status) (yields : Y)
     → Telling Whole Part (written h.held w) (written h'.held w') read_fault_line one → Outcome ended yields → (Unopened before after files name → Outcome status.ReadFault one)
-    → IsOpenCounted {T = T} before after (Err fault) → (IsErrOf {T = T} (Err fault) open_fault.Missing → IsMissing files name)
+    → IsOpeningCounted {T = T} before after (Err fault) → (IsErrOf {T = T} (Err fault) open_fault.Missing → IsMissing files name)
     → EndsUnopened fault h h' w w' result → Tells Outcome Whole Part result
 tells_unopened {result = result} fault before after files name ended yields telling outcome other counts missing ends =
     elim (memory_or fault) [
@@ -154,11 +155,11 @@ tells_unopened {result = result} fault before after files name ended yields tell
 one_of : (name : List ℕ) → Contains (name ∷ []) name
 one_of name = (0, omega arith, refl)
 
-counts_fault : (result : Result Status Failed) (before after : ℕ) (files : Option Files) (name : List ℕ) → before ≤ after → Unopened before after files name → IfOk result (λ s. s ≡ status.ReadFault)
+counts_fault : (result : Result Status Failed) (before after : ReadingFaults) (files : Option Files) (name : List ℕ) → before.count ≤ after.count → Unopened before after files name → IfOk result (λ s. s ≡ status.ReadFault)
     → CountsReading (name ∷ []) files before after result
 counts_fault (Ok s) before after files name falls cause is = record {
   never_falls = falls;
-  fault = λ e. elim cause [ inl rose ↦ inl rose | inr missing ↦ inr (record { name = name; one = one_of name; missing = missing }) ];
+  fault = λ e. elim cause [ inl fails ↦ inl fails.once | inr missing ↦ inr (record { name = name; one = one_of name; missing = missing }) ];
   quiet = λ fault memory write. absurd (fault is);
 }
 counts_fault (Err e) before after files name falls cause is = record { never_falls = falls; fault = λ same. absurd cc; quiet = tt }
@@ -166,7 +167,7 @@ counts_fault (Err e) before after files name falls cause is = record { never_fal
 pub ok_same : (x : Result Status Failed) (s r : Status) → x ≡ Ok s → x ≡ Ok r → s ≡ r
 ok_same x s r first second = cc
 
-pub counts_memory : {before after : ℕ} {names : List (List ℕ)} {files : Option Files} (result : Result Status Failed) → before ≤ after → result ≡ Ok status.Memory → CountsReading names files before after result
+pub counts_memory : {before after : ReadingFaults} {names : List (List ℕ)} {files : Option Files} (result : Result Status Failed) → before.count ≤ after.count → result ≡ Ok status.Memory → CountsReading names files before after result
 counts_memory (Ok s) falls is = record {
   never_falls = falls;
   fault = λ e. absurd (let t : status.Memory ≡ status.ReadFault = ok_same (Ok s) status.Memory status.ReadFault is e in cc);
@@ -174,11 +175,11 @@ counts_memory (Ok s) falls is = record {
 }
 counts_memory (Err e) falls is = absurd cc
 
-pub counts_failed : {before after : ℕ} {names : List (List ℕ)} {files : Option Files} (e : Failed) → before ≤ after → CountsReading names files before after (Err e)
+pub counts_failed : {before after : ReadingFaults} {names : List (List ℕ)} {files : Option Files} (e : Failed) → before.count ≤ after.count → CountsReading names files before after (Err e)
 counts_failed e falls = record { never_falls = falls; fault = λ same. absurd cc; quiet = tt }
 
-pub counts_unopened : {T : Type 0} {h h' : SinkState} {w w' : List ℕ} {result : Result Status Failed} (fault : OpenFault) (before after : ℕ) (files : Option Files) (name : List ℕ)
-    → IsOpenCounted {T = T} before after (Err fault) → (IsErrOf {T = T} (Err fault) open_fault.Missing → IsMissing files name)
+pub counts_unopened : {T : Type 0} {h h' : SinkState} {w w' : List ℕ} {result : Result Status Failed} (fault : OpenFault) (before after : ReadingFaults) (files : Option Files) (name : List ℕ)
+    → IsOpeningCounted {T = T} before after (Err fault) → (IsErrOf {T = T} (Err fault) open_fault.Missing → IsMissing files name)
     → EndsUnopened fault h h' w w' result → CountsReading (name ∷ []) files before after result
 counts_unopened {result = result} fault before after files name counts missing ends =
     elim (memory_or fault) [
@@ -186,24 +187,24 @@ counts_unopened {result = result} fault before after files name counts missing e
       | inr no_memory ↦ counts_fault result before after files name counts.never_falls (cause_of fault before after files name no_memory counts missing) (ends.other no_memory).status
     ]
 
--- the count of reading faults rose if and only if the status is `ReadFault`
-abbrev pub TellsFault : Status → ℕ → ℕ → Type 0
-TellsFault ended before after = ((ended ≢ status.ReadFault) × (after ≡ before)) ⊎ ((ended ≡ status.ReadFault) × Rose before after)
+-- one more reading fault was counted if and only if the status is `ReadFault`
+abbrev pub TellsFault : Status → ReadingFaults → ReadingFaults → Type 0
+TellsFault ended before after = ((ended ≢ status.ReadFault) × (after ≡ before)) ⊎ ((ended ≡ status.ReadFault) × HasOneMore before after)
 
-pub counts_by : {before after : ℕ} {names : List (List ℕ)} {files : Option Files} (ended : Status) (result : Result Status Failed) → before ≤ after → TellsFault ended before after → IfOk result (λ s. s ≡ ended) → CountsReading names files before after result
+pub counts_by : {before after : ReadingFaults} {names : List (List ℕ)} {files : Option Files} (ended : Status) (result : Result Status Failed) → before.count ≤ after.count → TellsFault ended before after → IfOk result (λ s. s ≡ ended) → CountsReading names files before after result
 counts_by ended (Err e) falls told is = counts_failed e falls
 counts_by ended (Ok s) falls told is = elim told [
   | inl other ↦ record { never_falls = falls; fault = λ e. absurd (other.0 (sym is ∙ ok_same (Ok s) s status.ReadFault refl e)); quiet = λ fault memory write. other.1 }
   | inr fault ↦ record { never_falls = falls; fault = λ e. inl fault.1; quiet = λ other memory write. absurd (other (is ∙ fault.0)) }
 ]
 
-ends_fault : (how : End) (before after : ℕ) → CountsFault None (Some how) before after → TellsFault (status_of how) before after
+ends_fault : (how : End) (before after : ReadingFaults) → CountsFault None (Some how) before after → TellsFault (status_of how) before after
 ends_fault end.Whole before after counts = inl (λ e. cc, counts)
 ends_fault (end.Refused refusal) before after counts = inl (λ e. cc, counts)
 ends_fault end.ReadFault before after counts = inr (refl, counts)
 ends_fault end.Limit before after counts = inl (λ e. cc, counts)
 
-pub counts_ended : {before after : ℕ} {names : List (List ℕ)} {files : Option Files} (how : End) (result : Result Status Failed) → before ≤ after → CountsFault None (Some how) before after → IfOk result (λ s. s ≡ status_of how) → CountsReading names files before after result
+pub counts_ended : {before after : ReadingFaults} {names : List (List ℕ)} {files : Option Files} (how : End) (result : Result Status Failed) → before.count ≤ after.count → CountsFault None (Some how) before after → IfOk result (λ s. s ≡ status_of how) → CountsReading names files before after result
 counts_ended {before} {after} how result falls counts is = counts_by (status_of how) result falls (ends_fault how before after counts) is
 
 ends_other : (result : Result Status Failed) (ended other : Status) → ended ≢ other → IfOk result (λ s. s ≡ ended) → result ≡ Ok other → ⊥

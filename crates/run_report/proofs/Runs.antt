@@ -2,6 +2,7 @@
 use Rattle.std.proofs.Common.{◌≡◌, ℕ, List, Option, Result, Ok, Err, inl, inr, None, Some, Bool, refl, true, false, sym, ◌∙◌}
 use Rattle.std.specs.Prelude.{◌≢◌, IfOk}
 use Rattle.avtp_base.specs.declared.failed.Failed.{Failed}
+use Rattle.avtp_base.specs.declared.failed.FaultPlace.{FaultPlace}
 use Rattle.avtp_base.specs.States.{Asks, ShelfState}
 use Rattle.sample_schedule.specs.declared.shown.Shown.{Shown}
 use Rattle.avtp_base.specs.Files.{Files, KeepsFiles}
@@ -44,7 +45,7 @@ makes_nothing : (output : Option (List ℕ)) (f g : Option Files) → KeepsFiles
 makes_nothing None f g keeps = (keeps, keeps)
 makes_nothing (Some name) f g keeps = (keeps, keeps)
 
-pub tells_all : {task : Task} {all : Files} {fault : Type 0} {failed : Bool} {handed : List Shown → Type 0} {s t : ShelfState} {before now : Option (List ℕ)} {result : Result Status Failed} → KeepsFiles s.files t.files
+pub tells_all : {task : Task} {all : Files} {fault : FaultPlace → Type 0} {failed : Bool} {handed : List Shown → Type 0} {s t : ShelfState} {before now : Option (List ℕ)} {result : Result Status Failed} → KeepsFiles s.files t.files
     → TellsRun (λ came ended yields. task.Comes all fault failed came ended yields None) handed s t before now result → TellsAll task all fault failed handed s t before now result
 tells_all {task} {s = s} {t} {result = result} keeps tells = record { made = None; tells = tells; whole = whole_at result; begun = nothing.1 } where
   nothing : MakesOutput task.output None s.files t.files × MakesPart task.output None s.files t.files

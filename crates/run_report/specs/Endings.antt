@@ -3,6 +3,8 @@ use Rattle.std.specs.Prelude.{ℕ, List, [], ◌≡◌, ◌⊎◌, None}
 use Rattle.capture_io.specs.declared.end.End.{End}
 use Rattle.avtp_text.specs.Notices.{capture_refused_line, limit_line, read_fault_line}
 use Rattle.avtp_base.specs.Files.{Files}
+use Rattle.avtp_base.specs.declared.failed.FaultPlace.{FaultPlace}
+use Rattle.avtp_base.specs.declared.failed.FaultPlace.TheVariants as fault_place
 use Rattle.avtp_base.specs.declared.failed.OpenFault.{OpenFault}
 use Rattle.capture_io.specs.declared.end.End.TheVariants as end
 use Rattle.avtp_base.specs.declared.failed.OpenFault.TheVariants as open_fault
@@ -17,8 +19,8 @@ side_line limit end.ReadFault = read_fault_line
 side_line limit end.Limit = limit_line limit
 
 -- a file was not opened: it is missing, or a read fault occurred
-abbrev pub IsUnopened : Files → Type 0 → List ℕ → Type 0
-IsUnopened files fault name = (files name ≡ None) ⊎ fault
+abbrev pub IsUnopened : Files → (FaultPlace → Type 0) → List ℕ → Type 0
+IsUnopened files fault name = (files name ≡ None) ⊎ fault fault_place.Opening
 
 -- the status of a run whose file could not be made
 abbrev pub unmade_as : OpenFault → Status

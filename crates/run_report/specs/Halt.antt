@@ -1,5 +1,7 @@
 -- The read fault that ends a run. A read fault always ends a run, so a run has at most one.
-use Rattle.std.specs.Prelude.{ℕ, zero, suc, List, [], ◌∷◌, Option, None, Some, ◌≡◌, ◌≤◌, length, take, ⊤}
+use Rattle.std.specs.Prelude.{ℕ, zero, suc, ◌-◌, List, [], ◌∷◌, Option, None, Some, ◌≡◌, ◌≤◌, length, take, ⊤}
+use Rattle.avtp_base.specs.declared.failed.FaultPlace.{FaultPlace}
+use Rattle.avtp_base.specs.declared.failed.FaultPlace.TheVariants as fault_place
 use Rattle.avtp_base.specs.Files.{Files}
 use Rattle.capture_io.specs.Formats.{certain_in}
 
@@ -21,18 +23,20 @@ past_first (not_opened (suc place)) = not_opened place
 past_first (stopped_after zero after) = no_halt
 past_first (stopped_after (suc place) after) = stopped_after place after
 
--- The reading of a file that exists can be stopped after its first `after` bytes: these are within the limit and within
--- the file, and none of their fields is certain to be refused. The option holds the file's bytes.
-abbrev pub CanStop : ℕ → Option (List ℕ) → ℕ → Type 0
-CanStop limit None after = ⊥
-CanStop limit (Some bytes) after = (after ≤ limit) × (after ≤ length bytes) × (certain_in (take after bytes) ≡ None)
+-- The reading of a file that exists can be stopped after its first `after` bytes: `fault` holds of a fault at this
+-- place, these bytes are within the limit and within the file, and none of their fields is certain to be refused. The
+-- option holds the file's bytes.
+abbrev pub CanStop : ℕ → Option (List ℕ) → (FaultPlace → Type 0) → ℕ → Type 0
+CanStop limit None fault after = ⊥
+CanStop limit (Some bytes) fault after =
+    fault (fault_place.Reading (length bytes - after)) × (after ≤ limit) × (after ≤ length bytes) × (certain_in (take after bytes) ≡ None)
 
 -- A run that reads the files of these names in order, up to `limit` bytes of each, can end with this read fault. A read
--- fault is possible only if `fault` holds.
-abbrev pub CanHalt : ℕ → List (List ℕ) → Files → Type 0 → Halt → Type 0
+-- fault is possible only if `fault` holds of its place.
+abbrev pub CanHalt : ℕ → List (List ℕ) → Files → (FaultPlace → Type 0) → Halt → Type 0
 CanHalt limit names files fault no_halt = ⊤
 CanHalt limit [] files fault halt = ⊥
-CanHalt limit (name ∷ names) files fault (not_opened zero) = fault
+CanHalt limit (name ∷ names) files fault (not_opened zero) = fault fault_place.Opening
 CanHalt limit (name ∷ names) files fault (not_opened (suc place)) = CanHalt limit names files fault (not_opened place)
-CanHalt limit (name ∷ names) files fault (stopped_after zero after) = fault × CanStop limit (files name) after
+CanHalt limit (name ∷ names) files fault (stopped_after zero after) = CanStop limit (files name) fault after
 CanHalt limit (name ∷ names) files fault (stopped_after (suc place) after) = CanHalt limit names files fault (stopped_after place after)

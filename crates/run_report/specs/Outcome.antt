@@ -6,7 +6,7 @@ use Rattle.avtp_base.specs.declared.failed.Failed.{Failed}
 use Rattle.avtp_base.specs.Told.{Appends, Keeps}
 use Rattle.avtp_text.specs.Written.{AppendsPrefix, Grows, written}
 use Rattle.sample_schedule.specs.declared.shown.Shown.{Shown}
-use Rattle.avtp_base.specs.Faults.{IsCounted, Rose}
+use Rattle.avtp_base.specs.Faults.{HasOneMore, IsCounted, ReadingFaults}
 use Rattle.avtp_base.specs.declared.failed.OpenFault.{OpenFault}
 use Rattle.avtp_text.specs.Notices.{read_fault_line}
 use Rattle.avtp_base.specs.declared.failed.OpenFault.TheVariants as open_fault
@@ -106,10 +106,10 @@ pub record EndsUnopened (fault : OpenFault) (out out' : SinkState) (waits waits'
   pub other : fault ≢ open_fault.Memory → EndsWith status.ReadFault out out' waits waits' result read_fault_line
   pub sink : KeepsSink out out' result
 
--- How the count of reading faults changes in a run that reads some of these files. The run ends with a read fault only
--- if a read fault was counted or one of the files is missing. If the run ends with a status other than `ReadFault`,
--- `Memory` and `WriteFault`, the count is unchanged.
-pub record CountsReading (names : List (List ℕ)) (files : Option Files) (before after : ℕ) (result : Result Status Failed) : Type 0 where
-  pub never_falls : before ≤ after
-  pub fault : result ≡ Ok status.ReadFault → Rose before after ⊎ IsOneMissing names files
+-- How the reading faults change in a run that reads some of these files. The run ends with a read fault only if exactly
+-- one read fault was counted or one of the files is missing. If the run ends with a status other than `ReadFault`,
+-- `Memory` and `WriteFault`, the reading faults are unchanged.
+pub record CountsReading (names : List (List ℕ)) (files : Option Files) (before after : ReadingFaults) (result : Result Status Failed) : Type 0 where
+  pub never_falls : before.count ≤ after.count
+  pub fault : result ≡ Ok status.ReadFault → HasOneMore before after ⊎ IsOneMissing names files
   pub quiet : IfOk result (λ s. s ≢ status.ReadFault → s ≢ status.Memory → s ≢ status.WriteFault → after ≡ before)

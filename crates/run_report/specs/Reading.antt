@@ -12,7 +12,9 @@ use Rattle.capture_io.specs.Reads.{ReadsSlot, OnlyReads}
 use Rattle.avtp_base.specs.declared.failed.Failed.{Failed}
 use Rattle.avtp_text.specs.Written.{written}
 use Rattle.avtp_base.specs.Told.{Keeps}
-use Rattle.avtp_base.specs.Faults.{Rose}
+use Rattle.avtp_base.specs.Faults.{FailsAt}
+use Rattle.avtp_base.specs.declared.failed.FaultPlace.{FaultPlace}
+use Rattle.avtp_base.specs.declared.failed.FaultPlace.TheVariants as fault_place
 use Rattle.sample_schedule.specs.declared.shown.Shown.{Shown}
 use Rattle.run_report.specs.declared.status.Status.{Status}
 use Rattle.run_report.specs.RunReport.{Halts, RunReport}
@@ -47,11 +49,11 @@ file_yield report limit (Some bytes) (stopped_after zero after) = report.yields 
 file_yield report limit (Some bytes) halt = report.yields (records_in (take limit bytes)) (end_of limit bytes)
 
 -- A file's outcome: its status and what it yields, for a read fault that is possible in this file, or for none.
-pub data FileOutcome (report : Report) (limit : ℕ) (told : Option (List ℕ)) (fault : Type 0) (ended : Status) (yields : Yield) : Type 0 where
+pub data FileOutcome (report : Report) (limit : ℕ) (told : Option (List ℕ)) (fault : FaultPlace → Type 0) (ended : Status) (yields : Yield) : Type 0 where
   through : ended ≡ file_status report limit told no_halt → yields ≡ file_yield report limit told no_halt → FileOutcome report limit told fault ended yields
-  refused : fault → ended ≡ file_status report limit told (not_opened zero) → yields ≡ file_yield report limit told (not_opened zero)
+  refused : fault fault_place.Opening → ended ≡ file_status report limit told (not_opened zero) → yields ≡ file_yield report limit told (not_opened zero)
       → FileOutcome report limit told fault ended yields
-  halted : (after : ℕ) → fault → CanStop limit told after → ended ≡ file_status report limit told (stopped_after zero after)
+  halted : (after : ℕ) → CanStop limit told fault after → ended ≡ file_status report limit told (stopped_after zero after)
       → yields ≡ file_yield report limit told (stopped_after zero after) → FileOutcome report limit told fault ended yields
 
 -- ---- files in order
@@ -107,7 +109,7 @@ plan_report plan files halt = record {
 }
 
 -- what a command with this plan did, under one of the read faults that are possible
-abbrev pub PlanOutcome : ReadPlan → Files → Type 0 → List (List ℕ) → Status → Yield → Type 0
+abbrev pub PlanOutcome : ReadPlan → Files → (FaultPlace → Type 0) → List (List ℕ) → Status → Yield → Type 0
 PlanOutcome plan files fault came ended yields = Halts (CanHalt plan.limit plan.names files fault) (plan_report plan files) came ended yields None
 
 -- ---- an open capture
@@ -121,8 +123,8 @@ abbrev pub ended_in : {T E : Type 0} → (T → End) → Result T E → Option E
 ended_in end (Ok x) = Some (end x)
 ended_in end (Err e) = None
 
--- The file was read, and is still open. The count of reading faults rose if a read fault ended the reading. All else is
--- unchanged.
+-- The file was read, and is still open. If a read fault ended the reading, one more reading fault was counted. All else
+-- is unchanged.
 pub record ReadsCapture (shelf shelf' : ShelfState) (k now : ℕ) (how : Option End) : Type 0 where
   pub reads : ReadsSlot shelf shelf' k now
   pub counted : CountsFault None how shelf.reading_faults shelf'.reading_faults
@@ -137,9 +139,9 @@ pub record ReadsAhead (shelf shelf' : ShelfState) (old new : Sourcing) (out out'
 
 -- The records of the file were read as far as possible, and reported. `Told` says what was reported. `Told` relates the
 -- limit, the bytes of the file, the condition for a read fault, the known text before and after, and the result.
-pub record ReadsRecords {T : Type 0} (Told : ℕ → List ℕ → Type 0 → Option (List ℕ) → Option (List ℕ) → Result T Failed → Type 0) (ending : T → End)
+pub record ReadsRecords {T : Type 0} (Told : ℕ → List ℕ → (FaultPlace → Type 0) → Option (List ℕ) → Option (List ℕ) → Result T Failed → Type 0) (ending : T → End)
     (shelf shelf' : ShelfState) (old new : Sourcing) (out out' : SinkState) (waits waits' : List ℕ) (result : Result T Failed) : Type 0 where
-  pub told : (limit : ℕ) (bytes : List ℕ) → HasGivenOf limit bytes shelf old [] → Told limit bytes (Rose shelf.reading_faults shelf'.reading_faults) (written out.held waits) (written out'.held waits') result
+  pub told : (limit : ℕ) (bytes : List ℕ) → HasGivenOf limit bytes shelf old [] → Told limit bytes (FailsAt shelf.reading_faults shelf'.reading_faults) (written out.held waits) (written out'.held waits') result
   pub reads : ReadsCapture shelf shelf' (slot_of old) (slot_of new) (ended_in ending result)
   pub sink : KeepsSink out out' result
 
@@ -161,7 +163,7 @@ IsReadingStatus result = IfOk result (λ s. is_of_reading s ≡ true)
 -- The file `name` was read, up to `limit` bytes. What the report yields was printed and given to devices, and nothing
 -- else was done.
 pub record DoesFile (report : Report) (handed : List Shown → Type 0) (limit : ℕ) (name : List ℕ) (shelf shelf' : ShelfState) (out out' : SinkState) (waits waits' : List ℕ) (result : Result Status Failed) : Type 0 where
-  pub tells : (all : Files) → shelf.files ≡ Some all → TellsYield (FileOutcome report limit (all name) (Rose shelf.reading_faults shelf'.reading_faults)) handed (written out.held waits) (written out'.held waits') result
+  pub tells : (all : Files) → shelf.files ≡ Some all → TellsYield (FileOutcome report limit (all name) (FailsAt shelf.reading_faults shelf'.reading_faults)) handed (written out.held waits) (written out'.held waits') result
   pub keeps : OnlyReads shelf shelf' (name ∷ [])
   pub counts : CountsReading (name ∷ []) shelf.files shelf.reading_faults shelf'.reading_faults result
   pub own : IsReadingStatus result
@@ -169,8 +171,8 @@ pub record DoesFile (report : Report) (handed : List Shown → Type 0) (limit : 
 
 -- A command read some of these files, in this order. What the command yields was printed and given to devices, and
 -- nothing else was done. `Outcome` gives the possible outcomes over the files that a shelf shows.
-pub record DoesReading (Outcome : Files → Type 0 → List (List ℕ) → Status → Yield → Type 0) (names : List (List ℕ)) (handed : List Shown → Type 0) (shelf shelf' : ShelfState) (out out' : SinkState) (waits waits' : List ℕ) (result : Result Status Failed) : Type 0 where
-  pub tells : (all : Files) → shelf.files ≡ Some all → IsSome shelf'.files → TellsRun (Outcome all (Rose shelf.reading_faults shelf'.reading_faults)) handed shelf shelf' (written out.held waits) (written out'.held waits') result
+pub record DoesReading (Outcome : Files → (FaultPlace → Type 0) → List (List ℕ) → Status → Yield → Type 0) (names : List (List ℕ)) (handed : List Shown → Type 0) (shelf shelf' : ShelfState) (out out' : SinkState) (waits waits' : List ℕ) (result : Result Status Failed) : Type 0 where
+  pub tells : (all : Files) → shelf.files ≡ Some all → IsSome shelf'.files → TellsRun (Outcome all (FailsAt shelf.reading_faults shelf'.reading_faults)) handed shelf shelf' (written out.held waits) (written out'.held waits') result
   pub count : ℕ
   pub within : count ≤ length names
   pub all : IsDone result → count ≡ length names

@@ -4,7 +4,8 @@ use Rattle.avtp_base.specs.declared.failed.Failed.{Failed}
 use Rattle.avtp_base.specs.Files.{Files}
 use Rattle.avtp_base.specs.States.{ShelfState, SinkState}
 use Rattle.sample_schedule.specs.declared.shown.Shown.{Shown}
-use Rattle.avtp_base.specs.Faults.{Rose}
+use Rattle.avtp_base.specs.Faults.{FailsAt}
+use Rattle.avtp_base.specs.declared.failed.FaultPlace.{FaultPlace}
 use Rattle.avtp_text.specs.Written.{written}
 use Rattle.run_report.specs.declared.status.Status.{Status}
 use Rattle.run_report.specs.Made.{MakesOutput, MakesPart, KeepsFilesBut, KeepsSlotsFor, CountsWriting}
@@ -22,7 +23,7 @@ pub record Task : Type 1 where
   pub output : Option (List ℕ)
   pub again : List (List ℕ)
   pub listens : Bool
-  pub Comes : Files → Type 0 → Bool → List (List ℕ) → Status → Yield → Option (List ℕ) → Type 0
+  pub Comes : Files → (FaultPlace → Type 0) → Bool → List (List ℕ) → Status → Yield → Option (List ℕ) → Type 0
 
 -- The names that a task asks a shelf for, in order: the files that are read, the file that is made, and the files that
 -- are read again.
@@ -30,7 +31,7 @@ abbrev pub names_in : Task → List (List ℕ)
 names_in task = task.reads ++ (option_to_list task.output ++ task.again)
 
 -- What a run printed, gave to devices and made, if a shelf shows its files before and after the run.
-pub record TellsAll (task : Task) (all : Files) (fault : Type 0) (failed : Bool) (handed : List Shown → Type 0) (shelf shelf' : ShelfState) (before now : Option (List ℕ)) (result : Result Status Failed) : Type 0 where
+pub record TellsAll (task : Task) (all : Files) (fault : FaultPlace → Type 0) (failed : Bool) (handed : List Shown → Type 0) (shelf shelf' : ShelfState) (before now : Option (List ℕ)) (result : Result Status Failed) : Type 0 where
   pub made : Option (List ℕ)
   pub tells : TellsRun (λ came ended yields. task.Comes all fault failed came ended yields made) handed shelf shelf' before now result
   pub whole : IfOk result (λ s. s ≢ status.Memory → s ≢ status.WriteFault → MakesOutput task.output made shelf.files shelf'.files)
@@ -51,7 +52,7 @@ pub record TellsDevices (task : Task) (failed : Bool) (result : Result Status Fa
 -- slots and the counts of faults after the run. `failed` says whether a device failed.
 pub record Runs (task : Task) (handed : List Shown → Type 0) (failed : Bool) (shelf shelf' : ShelfState)
     (out out' : SinkState) (waits waits' : List ℕ) (result : Result Status Failed) : Type 0 where
-  pub tells : (all : Files) → shelf.files ≡ Some all → IsSome shelf'.files → TellsAll task all (Rose shelf.reading_faults shelf'.reading_faults) failed handed shelf shelf' (written out.held waits) (written out'.held waits') result
+  pub tells : (all : Files) → shelf.files ≡ Some all → IsSome shelf'.files → TellsAll task all (FailsAt shelf.reading_faults shelf'.reading_faults) failed handed shelf shelf' (written out.held waits) (written out'.held waits') result
   pub files : KeepsFilesBut task.output shelf.files shelf'.files
   pub slots : KeepsSlotsFor task.output shelf'.files shelf.slots shelf'.slots
   pub counts : CountsReading task.reads shelf.files shelf.reading_faults shelf'.reading_faults result

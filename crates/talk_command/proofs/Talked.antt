@@ -1,9 +1,9 @@
 -- What `talk` makes of an input.
 use Rattle.std.proofs.Common.{ℕ, List, [], ◌∷◌, refl, arith, sym, subst, append-nil, ◌≡◌, ◌≤◌, Err, inr, Ok, Option, Result, inl, if◌then◌else◌, Some, true, false, take, length, ◌∙◌, ◌<◌, None}
-use Rattle.std.specs.Prelude.{IfOk, ◌≢◌, ◌⊎◌, IsOk}
+use Rattle.std.specs.Prelude.{IfOk, ◌≢◌, ◌⊎◌, IsOk, ⊤}
 use Rattle.avtp_base.specs.States.{Asks, ShelfState, WasAsked, SinkState}
 use Rattle.avtp_base.specs.declared.failed.Failed.{Failed}
-use Rattle.avtp_base.specs.Faults.{Rose, IsOpenCounted}
+use Rattle.avtp_base.specs.Faults.{FailsAt, IsOpeningCounted, ReadingFaults, Rose}
 use Rattle.capture_io.specs.Writing.{KeepsSlotsBut, PutsPrefix, MakesPrefix}
 use Rattle.avtp_base.specs.Files.{PutsFile, Files, KeepsFiles}
 use Rattle.avtp_base.specs.declared.failed.OpenFault.{OpenFault}
@@ -14,7 +14,7 @@ use Rattle.talker.specs.Faults.{fault_of}
 use Rattle.talk_plan.specs.Plan.{most_input}
 use Rattle.avtp_text.specs.Written.{written}
 use Rattle.avtp_text.proofs.Printing.{prefix_none}
-use Rattle.capture_io.specs.Contents.{IsContents, IsReadCounted}
+use Rattle.capture_io.specs.Contents.{IsContents, IsWholeCounted}
 use Rattle.capture_io.specs.declared.end.Stop.{Stop}
 use Rattle.capture_io.specs.declared.contents.Contents.{Contents}
 use Rattle.avtp_text.specs.Notices.{read_fault_line}
@@ -28,6 +28,7 @@ use Rattle.run_report.specs.Endings.{unmade_as}
 use Rattle.run_report.specs.Made.{KeepsFilesBut, CountsWriting}
 use Rattle.run_report.proofs.Outcomes.{IsCut, undone_by, tells_cut, tells_line, ends_not, ok_same, undone_as, tells_weaker, missing_none, Unopened}
 use Rattle.run_report.specs.declared.status.Status.TheVariants as status
+use Rattle.talk_command.specs.Talk.{FailsSomewhere}
 use Rattle.talk_command.specs.state.Talk.{TalkedOutcome, TalkOutcome, MakesFile, Makes, WritesOnly, EndsRefused, OutcomeWith, FaultStops}
 use Rattle.avtp_text.specs.Talk.{talk_input_line}
 use Rattle.talk_command.proofs.TalkOutcomes.{talked_here}
@@ -219,18 +220,18 @@ talked_weaker plan bytes a b status.DeviceFault text weaker o = absurd o
 pub tells_caused : {before now : Option (List ℕ)} {result : Result Status Failed} (f g : Option Files) (plan : TalkPlan) (bytes : List ℕ) (a b : Type 0) → (a → b) → TellsText (OutcomeWith (TalkedOutcome plan bytes a) f g) before now result → TellsText (OutcomeWith (TalkedOutcome plan bytes b) f g) before now result
 tells_caused f g plan bytes a b weaker tells = tells_weaker (λ ended text o. (talked_weaker plan bytes a b ended text weaker o.0, o.1)) tells
 
-pub whole_is : (limit : ℕ) (bytes : List ℕ) (halt : Stop) (prefix slice : List ℕ) → halt ≡ stop.End → slice ≡ prefix → IsContents limit bytes halt prefix → slice ≡ bytes
-whole_is limit bytes halt prefix slice is same has = same ∙ sym (subst (λ (h : Stop). IsContents limit bytes h prefix) is has).0
+pub whole_is : (limit : ℕ) (bytes : List ℕ) (halt : Stop) (prefix slice : List ℕ) → halt ≡ stop.End → slice ≡ prefix → IsContents limit bytes (λ place. ⊤) halt prefix → slice ≡ bytes
+whole_is limit bytes halt prefix slice is same has = same ∙ sym (subst (λ (h : Stop). IsContents limit bytes (λ place. ⊤) h prefix) is has).0
 
 pub tells_read : {before now : Option (List ℕ)} {result : Result Status Failed} {prefix : List ℕ} (f g : Option Files) (plan : TalkPlan) (bytes input : List ℕ) (halt : Stop)
-    → halt ≡ stop.End → input ≡ prefix → IsContents most_input bytes halt prefix → TellsText (OutcomeWith (TalkedOutcome plan input ⊥) f g) before now result → TellsText (OutcomeWith (TalkedOutcome plan bytes (halt ≡ stop.Fault)) f g) before now result
+    → halt ≡ stop.End → input ≡ prefix → IsContents most_input bytes (λ place. ⊤) halt prefix → TellsText (OutcomeWith (TalkedOutcome plan input ⊥) f g) before now result → TellsText (OutcomeWith (TalkedOutcome plan bytes (halt ≡ stop.Fault)) f g) before now result
 tells_read {before} {now} {result} {prefix} f g plan bytes input halt is same has tells =
     subst (λ (b : List ℕ). TellsText (OutcomeWith (TalkedOutcome plan b (halt ≡ stop.Fault)) f g) before now result) (whole_is most_input bytes halt prefix input is same has)
     (tells_caused f g plan input ⊥ (halt ≡ stop.Fault) (λ none. absurd none) tells)
 
 -- if the limit stopped the reading, the input is longer than the limit
-pub too_long : (limit : ℕ) (bytes : List ℕ) (halt : Stop) (prefix : List ℕ) → halt ≡ stop.Limit → IsContents limit bytes halt prefix → limit < length bytes
-too_long limit bytes halt prefix is has = (subst (λ (h : Stop). IsContents limit bytes h prefix) is has).0
+pub too_long : (limit : ℕ) (bytes : List ℕ) (halt : Stop) (prefix : List ℕ) → halt ≡ stop.Limit → IsContents limit bytes (λ place. ⊤) halt prefix → limit < length bytes
+too_long limit bytes halt prefix is has = (subst (λ (h : Stop). IsContents limit bytes (λ place. ⊤) h prefix) is has).0
 
 -- ---- the end of a run whose input was read
 
@@ -272,13 +273,13 @@ stops_limit halt result is ends = record { fault = λ e. absurd (ends_not status
 
 -- ---- an input that could not be opened
 
-pub read_counted : {before after : ℕ} {why : OpenFault} → IsReadCounted before after (Err why) → IsOpenCounted {T = Contents} before after (Err why)
+pub read_counted : {before after : ReadingFaults} {why : OpenFault} → IsWholeCounted before after (Err why) → IsOpeningCounted {T = Contents} before after (Err why)
 read_counted counts = record { never_falls = counts.never_falls; ok = tt; missing = counts.missing; memory = counts.memory; failed = counts.failed }
 
-pub talks_unopened : (plan : TalkPlan) (before after : ℕ) (files : Option Files) (name : List ℕ) (all : Files) → files ≡ Some all → Unopened before after files name → TalkOutcome plan (all name) (Rose before after) status.ReadFault read_fault_line
+pub talks_unopened : (plan : TalkPlan) (before after : ReadingFaults) (files : Option Files) (name : List ℕ) (all : Files) → files ≡ Some all → Unopened before after files name → TalkOutcome plan (all name) (FailsSomewhere (FailsAt before after)) status.ReadFault read_fault_line
 talks_unopened plan before after files name all told (inl rose) = by_told (all name) where
-  by_told : (t : Option (List ℕ)) → TalkOutcome plan t (Rose before after) status.ReadFault read_fault_line
+  by_told : (t : Option (List ℕ)) → TalkOutcome plan t (FailsSomewhere (FailsAt before after)) status.ReadFault read_fault_line
   by_told None = (refl, refl)
-  by_told (Some bytes) = (rose, refl)
+  by_told (Some bytes) = ((_, rose), refl)
 talks_unopened plan before after files name all told (inr missing) =
-    subst (λ (t : Option (List ℕ)). TalkOutcome plan t (Rose before after) status.ReadFault read_fault_line) (sym (missing_none files name all told missing)) (refl, refl)
+    subst (λ (t : Option (List ℕ)). TalkOutcome plan t (FailsSomewhere (FailsAt before after)) status.ReadFault read_fault_line) (sym (missing_none files name all told missing)) (refl, refl)

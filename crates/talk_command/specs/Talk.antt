@@ -14,6 +14,7 @@ use Rattle.talker.specs.Faults.{fault_of}
 use Rattle.talk_plan.specs.Plan.{most_input}
 use Rattle.avtp_text.specs.Notices.{limit_line}
 use Rattle.avtp_words.specs.declared.talk.Kind.TheVariants as words
+use Rattle.avtp_base.specs.declared.failed.FaultPlace.{FaultPlace}
 use Rattle.avtp_base.specs.Files.{Files}
 use Rattle.run_report.specs.declared.status.Status.{Status}
 use Rattle.run_report.specs.Runs.{Task}
@@ -71,14 +72,18 @@ talk_report asked (Some bytes) no_halt =
     else record { came = asked.input ∷ []; ended = status.Limit; yields = says (limit_line most_input); made = None }
 talk_report asked told halt = ends_unread (asked.input ∷ [])
 
+-- `fault` holds of some place
+abbrev pub FailsSomewhere : (FaultPlace → Type 0) → Type 0
+FailsSomewhere fault = (place : FaultPlace) × fault place
+
 -- a read fault of the input of `talk`: it is possible only if `fault` holds
 abbrev pub CanTalkHalt : Type 0 → Halt → Type 0
 CanTalkHalt fault no_halt = ⊤
 CanTalkHalt fault halt = fault
 
 -- what a run of `talk` over these files did, under one of the read faults that are possible
-abbrev pub TalkYields : Talking → Files → Type 0 → List (List ℕ) → Status → Yield → Option (List ℕ) → Type 0
-TalkYields asked files fault came ended yields made = Halts (CanTalkHalt fault) (talk_report asked (files asked.input)) came ended yields made
+abbrev pub TalkYields : Talking → Files → (FaultPlace → Type 0) → List (List ℕ) → Status → Yield → Option (List ℕ) → Type 0
+TalkYields asked files fault came ended yields made = Halts (CanTalkHalt (FailsSomewhere fault)) (talk_report asked (files asked.input)) came ended yields made
 
 -- what the words ask `talk` to do
 abbrev pub talk_task : Talking → Task

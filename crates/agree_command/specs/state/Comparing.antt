@@ -1,13 +1,14 @@
 -- Only private functions and proofs use these definitions. Two captures that are read side by side and
 -- compared.
 use Rattle.std.specs.Prelude.{◌≢◌, ℕ, IsSome, ◌≡◌, ◌≤◌, List, [], ◌∷◌, None, ◌^◌, false, Some, IsErrOf, Err, IfErr, IfOk, Result, ◌+◌, take, Option, Ok, OnOk, Bool, true, ◌++◌, OnErr, is_some}
+use Rattle.avtp_base.specs.declared.failed.FaultPlace.{FaultPlace}
 use Rattle.avtp_base.specs.States.{ShelfState, AsksNothing, Asks, SinkState}
 use Rattle.capture_io.specs.Source.{slot_of, to_do, HasGivenOf, Sourcing, GivesNext, held_in}
 use Rattle.avtp_base.specs.Files.{KeepsFiles, Files, IsMissing}
 use Rattle.listener.specs.Listening.{ListenState, is_closed}
 use Rattle.capture_pair.specs.Pairing.{StandsFor, HavePlan, PairState, EndsAreClosed, IsThrough, Keeps as KeepsPair, known_by, other_of, Changes}
 use Rattle.avtp_base.specs.declared.failed.OpenFault.{OpenFault}
-use Rattle.avtp_base.specs.Faults.{IsOpenCounted, Rose}
+use Rattle.avtp_base.specs.Faults.{FailsAt, HasOneMore, IsOpeningCounted, ReadingFaults}
 use Rattle.capture_io.specs.Reads.{OnlyReads}
 use Rattle.avtp_base.specs.declared.failed.Failed.{Failed}
 use Rattle.avtp_base.specs.Told.{Appends, Keeps}
@@ -53,7 +54,7 @@ pub record ReadsTwo (before after : ShelfState) (k j : ℕ) : Type 0 where
   pub files : KeepsFiles before.files after.files
   pub live : AreOpen after k j
   pub others : (i : ℕ) → i ≢ k → i ≢ j → after.slots i ≡ before.slots i
-  pub reading : before.reading_faults ≤ after.reading_faults
+  pub reading : before.reading_faults.count ≤ after.reading_faults.count
   pub writing : after.writing_faults ≡ before.writing_faults
   pub asked : AsksNothing before after
 
@@ -112,7 +113,7 @@ pub record AreTold (asked : Agreeing) (files : Files) (shelf : ShelfState) (c : 
 -- the file `name` was not opened, for the reason `fault`
 pub record Refuses (before after : ShelfState) (name : List ℕ) (fault : OpenFault) : Type 0 where
   pub missing : IsErrOf {T = Sourcing} (Err fault) open_fault.Missing → IsMissing before.files name
-  pub counted : IsOpenCounted {T = Sourcing} before.reading_faults after.reading_faults (Err fault)
+  pub counted : IsOpeningCounted {T = Sourcing} before.reading_faults after.reading_faults (Err fault)
 
 -- Either the first file was not opened; or the first file was opened, and then the second file was not opened or memory
 -- ran out.
@@ -259,7 +260,7 @@ pub record IsComparedTo (asked : Agreeing) (x y : List ℕ) (shelf : ShelfState)
 
 -- A read fault occurred in one of two captures, after the bytes `prefix`. All differences that are known despite the
 -- fault were printed.
-pub data IsCutIn (asked : Agreeing) (x y : List ℕ) (fault : Type 0) (before now : Option (List ℕ)) : Type 0 where
+pub data IsCutIn (asked : Agreeing) (x y : List ℕ) (fault : FaultPlace → Type 0) (before now : Option (List ℕ)) : Type 0 where
   in_a : (prefix : List ℕ) → EndsAt asked.listener.limit (Some x) fault end.ReadFault prefix
       → Appends before now (difference_lines (differences (known false true (merged (due_in asked prefix) (presented_in asked y))))) → IsCutIn asked x y fault before now
   in_b : (prefix : List ℕ) → EndsAt asked.listener.limit (Some y) fault end.ReadFault prefix
@@ -273,17 +274,17 @@ pub record HasCompared (asked : Agreeing) (x y : List ℕ) (ended : Ended) (befo
   pub lines : Appends before now (difference_lines (differences (merged_in asked x y)))
 
 -- the result of comparing two captures with the bytes `x` and `y`, and what the comparison printed
-abbrev pub ComparesTo : Agreeing → List ℕ → List ℕ → Type 0 → Option (List ℕ) → Option (List ℕ) → Result Compared Failed → Type 0
+abbrev pub ComparesTo : Agreeing → List ℕ → List ℕ → (FaultPlace → Type 0) → Option (List ℕ) → Option (List ℕ) → Result Compared Failed → Type 0
 ComparesTo asked x y fault before now (Ok (compared.Ended ended)) = HasCompared asked x y ended before now
 ComparesTo asked x y fault before now (Ok compared.Fault) = IsCutIn asked x y fault before now
 ComparesTo asked x y fault before now (Ok compared.NoMemory) = AppendsPrefix before now (difference_lines (differences (merged_in asked x y)))
 ComparesTo asked x y fault before now (Err e) = AppendsPrefix before now (difference_lines (differences (merged_in asked x y)))
 
--- The count of reading faults rose if a read fault stopped the comparison. If no read fault stopped the comparison, the
--- count is unchanged. If the result is `Ended`, neither reading ended with a read fault.
-abbrev pub CountsCompared : Result Compared Failed → ℕ → ℕ → Type 0
+-- One more reading fault was counted if a read fault stopped the comparison. If no read fault stopped the comparison, the
+-- faults are unchanged. If the result is `Ended`, neither reading ended with a read fault.
+abbrev pub CountsCompared : Result Compared Failed → ReadingFaults → ReadingFaults → Type 0
 CountsCompared (Ok (compared.Ended ended)) before after = (ended.a ≢ end.ReadFault) × (ended.b ≢ end.ReadFault) × (after ≡ before)
-CountsCompared (Ok compared.Fault) before after = Rose before after
+CountsCompared (Ok compared.Fault) before after = HasOneMore before after
 CountsCompared (Ok compared.NoMemory) before after = after ≡ before
 CountsCompared (Err e) before after = after ≡ before
 
@@ -295,7 +296,7 @@ pub record EndsCompared (c : Comparing) (ended : Ended) : Type 0 where
 
 -- Two captures were compared, as far as they could be read, and their differences were printed.
 pub record Compares (shelf shelf' : ShelfState) (old new : Comparing) (out out' : SinkState) (waits waits' : List ℕ) (result : Result Compared Failed) : Type 0 where
-  pub told : (asked : Agreeing) (x y : List ℕ) → AreUnread asked x y shelf old → ComparesTo asked x y (Rose shelf.reading_faults shelf'.reading_faults) (written out.held waits) (written out'.held waits') result
+  pub told : (asked : Agreeing) (x y : List ℕ) → AreUnread asked x y shelf old → ComparesTo asked x y (FailsAt shelf.reading_faults shelf'.reading_faults) (written out.held waits) (written out'.held waits') result
   pub reads : ReadsBoth shelf shelf' old new
   pub counted : CountsCompared result shelf.reading_faults shelf'.reading_faults
   pub sink : KeepsSink out out' result

@@ -8,7 +8,7 @@ use Rattle.avtp_base.specs.States.{ShelfState}
 -- The state of a shelf of real files, as contracts see it. The shelf shows no files, and keeps no account of the names
 -- that it was asked for.
 abbrev pub real_state : files.Slots → ℕ → ℕ → ShelfState
-real_state slots reading writing = record { files = None; slots = slots; reading_faults = reading; writing_faults = writing; asked = None }
+real_state slots reading writing = record { files = None; slots = slots; reading_faults = record { count = reading; last = None }; writing_faults = writing; asked = None }
 
 -- At `Ok(n)` the file in a slot gave its next n bytes to the buffer. `before` and `after` are its bytes that are left to
 -- read, if the system shows them. Every slot keeps its file.

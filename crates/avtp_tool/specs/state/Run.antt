@@ -1,5 +1,6 @@
 -- Only private functions and proofs use these definitions. The outcome of a run of any command.
 use Rattle.std.specs.Prelude.{Bool, Option, ◌≡◌, ◌≢◌, ◌⊎◌, ℕ, ◌≤◌, List, [], Result, Ok, IsErr, ◌^◌}
+use Rattle.avtp_base.specs.declared.failed.FaultPlace.{FaultPlace}
 use Rattle.avtp_base.specs.declared.failed.Failed.{Failed}
 use Rattle.avtp_base.specs.Faults.{Rose}
 use Rattle.avtp_base.specs.States.{SinkState}
@@ -31,7 +32,7 @@ pub record Finishes (out out' : SinkState) (waits waits' : List ℕ) (ended : Re
   pub quiet : result ≢ status.WriteFault → out'.faults ≡ out.faults
 
 -- what a run of the request over these files did, under one of the read faults that are possible
-abbrev pub Outcome : Request → Files → Type 0 → Bool → List (List ℕ) → Status → Yield → Option (List ℕ) → Type 0
+abbrev pub Outcome : Request → Files → (FaultPlace → Type 0) → Bool → List (List ℕ) → Status → Yield → Option (List ℕ) → Type 0
 Outcome request files fault failed came ended yields made = Halts (CanEndWith request files fault) (report_for request files failed) came ended yields made
 
 -- what a request asks a command to do

@@ -1,6 +1,7 @@
 -- Only private functions and proofs use these definitions. A file that is read in pieces, up to a
 -- limit.
 use Rattle.std.specs.Prelude.{◌≡◌, ◌+◌, ◌<◌, ◌≤◌, ℕ, List, [], length, Option, Some, None, IfOk, IfSome, IsSome, Result}
+use Rattle.avtp_base.specs.Faults.{FailsAt}
 use Rattle.avtp_base.specs.declared.failed.NoMemory.{NoMemory}
 use Rattle.avtp_base.specs.declared.failed.OpenFault.{OpenFault}
 use Rattle.avtp_base.specs.Files.{Files, Slots, left_in}
@@ -30,10 +31,10 @@ pub record OpensPieces (before after : ShelfState) (limit : ℕ) (name : List �
 
 -- A read that began with an empty buffer. At `None` some bytes are buffered now, at most `old.left` of them. If the
 -- result is `Some`, the reading stopped, and the bytes taken are all bytes that were read. If a fault stopped the
--- reading, the count of reading faults rose; otherwise the count is unchanged.
+-- reading, one more reading fault was counted; otherwise the faults are unchanged.
 pub record ReadsPiece (before after : ShelfState) (old new : Piecing) (result : Option Stop) : Type 0 where
   pub more : result ≡ None → (limit : ℕ) (bytes prefix : List ℕ) → HasTakenOf limit bytes before old prefix → HasTakenOf limit bytes after new prefix
-  pub stopped : IfSome result (λ stop. (limit : ℕ) (bytes prefix : List ℕ) → HasTakenOf limit bytes before old prefix → IsContents limit bytes stop prefix)
+  pub stopped : IfSome result (λ stop. (limit : ℕ) (bytes prefix : List ℕ) → HasTakenOf limit bytes before old prefix → IsContents limit bytes (FailsAt before.reading_faults after.reading_faults) stop prefix)
   pub bounded : length new.waiting + new.left ≤ old.left
   pub some : result ≡ None → 0 < length new.waiting
   pub none : IsSome result → new.waiting ≡ []
@@ -43,7 +44,7 @@ pub record ReadsPiece (before after : ShelfState) (old new : Piecing) (result : 
 -- No byte of the file had been taken before. All pieces were read and joined, up to the end of the file, a fault or the
 -- limit.
 pub record JoinsPieces (before after : ShelfState) (old new : Piecing) (result : Result Contents NoMemory) : Type 0 where
-  pub read : IfOk result (λ contents. (limit : ℕ) (bytes : List ℕ) → HasTakenOf limit bytes before old [] → IsContents limit bytes contents.stop contents.bytes.items)
+  pub read : IfOk result (λ contents. (limit : ℕ) (bytes : List ℕ) → HasTakenOf limit bytes before old [] → IsContents limit bytes (FailsAt before.reading_faults after.reading_faults) contents.stop contents.bytes.items)
   pub bounded : IfOk result (λ contents. length contents.bytes.items ≤ old.left)
   pub counted : CountsStop (stop_of result) before.reading_faults after.reading_faults
   pub reads : ReadsSlot before after old.slot new.slot

@@ -1,7 +1,7 @@
 -- Only private functions and proofs use these definitions. The records of a capture, one after the
 -- other.
 use Rattle.std.specs.Prelude.{◌≡◌, ◌<◌, ◌≤◌, ⊤, ℕ, List, length, take, drop, IfSome, IsSome, Option, Some, None}
-use Rattle.avtp_base.specs.Faults.{Rose}
+use Rattle.avtp_base.specs.Faults.{FailsAt}
 use Rattle.avtp_base.specs.Files.{Slots}
 use Rattle.avtp_base.specs.States.{ShelfState}
 use Rattle.pcap_frames.specs.Capture.{Record}
@@ -17,10 +17,10 @@ HasFedOf limit bytes shelf source records = HasFed limit bytes (remains_of shelf
 
 -- The state after a call that read a piece or took buffered bytes. If the reading continues, no further record was
 -- released, and less work is left. If the reading ended, it ended after the released records, and `result` is how it
--- ended. If a fault ended the reading, the count of reading faults rose; otherwise the count is unchanged.
+-- ended. If a fault ended the reading, one more reading fault was counted; otherwise the faults are unchanged.
 pub record ReadsOn (before after : ShelfState) (old new : Sourcing) (result : Option End) : Type 0 where
   pub more : result ≡ None → (limit : ℕ) (bytes : List ℕ) (records : List Record) → HasFedOf limit bytes before old records → HasFedOf limit bytes after new records
-  pub ends : IfSome result (λ how. (limit : ℕ) (bytes : List ℕ) (records : List Record) → HasFedOf limit bytes before old records → EndsAfter limit bytes (Rose before.reading_faults after.reading_faults) how records)
+  pub ends : IfSome result (λ how. (limit : ℕ) (bytes : List ℕ) (records : List Record) → HasFedOf limit bytes before old records → EndsAfter limit bytes (FailsAt before.reading_faults after.reading_faults) how records)
   pub less : result ≡ None → to_do new < to_do old
   pub counted : CountsFault None result before.reading_faults after.reading_faults
   pub reads : ReadsSlot before after (slot_of old) (slot_of new)

@@ -1,6 +1,7 @@
 -- Only private functions and proofs use these definitions. What `check` prints and how it ends. The
 -- rules of `check` are this project's own.
 use Rattle.std.specs.Prelude.{◌≡◌, ◌≤◌, ℕ, List, length, MatchResult, IfOk, Result, ◌++◌, Option, take, Ok, Err}
+use Rattle.avtp_base.specs.declared.failed.FaultPlace.{FaultPlace}
 use Rattle.avtp_base.specs.declared.failed.Failed.{Failed}
 use Rattle.avtp_base.specs.Told.{Appends, Keeps}
 use Rattle.avtp_text.specs.Written.{written, AppendsPrefix}
@@ -39,7 +40,7 @@ pub record ChecksOne (tracker tracker' : List (StreamKey × StreamState)) (numbe
 
 -- The records of a file of these bytes were checked and counted, as far as the file could be read. `total` has the
 -- counts, and says how the reading ended.
-pub record HasChecked (limit : ℕ) (name bytes : List ℕ) (fault : Type 0) (total : Total) (before now : Option (List ℕ)) : Type 0 where
+pub record HasChecked (limit : ℕ) (name bytes : List ℕ) (fault : FaultPlace → Type 0) (total : Total) (before now : Option (List ℕ)) : Type 0 where
   pub records : List Record
   pub ends : EndsAfter limit bytes fault total.end records
   pub frames : total.frames ≡ length records
@@ -49,7 +50,7 @@ pub record HasChecked (limit : ℕ) (name bytes : List ℕ) (fault : Type 0) (to
 
 -- With `Ok`, the records were checked. With `Err`, the sink failed, and only a prefix of the records' lines was
 -- printed.
-abbrev pub ChecksRecords : ℕ → List ℕ → List ℕ → Type 0 → Option (List ℕ) → Option (List ℕ) → Result Total Failed → Type 0
+abbrev pub ChecksRecords : ℕ → List ℕ → List ℕ → (FaultPlace → Type 0) → Option (List ℕ) → Option (List ℕ) → Result Total Failed → Type 0
 ChecksRecords limit name bytes fault before now (Ok total) = HasChecked limit name bytes fault total before now
 ChecksRecords limit name bytes fault before now (Err e) =
     AppendsPrefix before now (capture_line name ++ joined_lines (of_each check_lines (records_in (take limit bytes))))

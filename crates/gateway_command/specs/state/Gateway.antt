@@ -1,8 +1,9 @@
 -- Only private functions and proofs use these definitions. A run of `gateway` after its scan: OUT is
 -- made, and IN is read again.
 use Rattle.std.specs.Prelude.{◌≡◌, ◌≢◌, ◌⊎◌, ℕ, ◌-◌, false, List, [], ◌∷◌, Option, Some, IsSome, Result, Ok, Err, IsErr, length, Bool, true, IfOk}
+use Rattle.avtp_base.specs.declared.failed.FaultPlace.{FaultPlace}
 use Rattle.avtp_base.specs.declared.failed.Failed.{Failed}
-use Rattle.avtp_base.specs.Faults.{Rose}
+use Rattle.avtp_base.specs.Faults.{FailsAt, HasOneMore}
 use Rattle.avtp_base.specs.Files.{Files, IsMissing, KeepsOtherFiles, name_in}
 use Rattle.avtp_base.specs.States.{Asks, ShelfState, SinkState}
 use Rattle.capture_io.specs.declared.end.End.{End}
@@ -28,7 +29,7 @@ use Rattle.run_report.specs.declared.status.Status.TheVariants as status
 use Rattle.gateway_command.specs.declared.turning.Output.{Output}
 use Rattle.gateway_command.specs.declared.turning.Turned.{Turned}
 use Rattle.gateway_command.specs.state.Turning.{IsFreshOutput, TurnsTo, WritesOutput, ended_turn}
-use Rattle.gateway_command.specs.Gateway.{turned_status, batches_by, skips_in, turned_capture, turned_text}
+use Rattle.gateway_command.specs.Gateway.{turned_status, batches_by, skips_in, turned_capture, turned_text, FailsAgain}
 use Rattle.gateway_command.specs.declared.turning.Turned.TheVariants as turned
 
 -- ---- the second reading
@@ -44,12 +45,12 @@ pub record IsFresh (listener : ListenState) : Type 0 where
 pub record TurnsInput (asked : Turning) (before after : ShelfState) (listener : ListenState) (old new : Output) (out out' : SinkState) (waits waits' : List ℕ) (result : Result Turned Failed) : Type 0 where
   pub told : (shape : Option Shape) (bytes : List ℕ) (files : Option Files) (all : Files) → before.files ≡ Some all → all asked.input ≡ Some bytes → IsSome after.files → IsFreshOutput asked shape files before old
       → StandsFor [] 0 listener → is_closed listener ≡ false → listener.plan ≡ plan_of asked.listener → end_of asked.listener.limit bytes ≡ end.Whole
-      → TurnsTo asked shape bytes (Rose before.reading_faults after.reading_faults) files after new (written out.held waits) (written out'.held waits') result
+      → TurnsTo asked shape bytes (FailsAgain bytes (FailsAt before.reading_faults after.reading_faults)) files after new (written out.held waits) (written out'.held waits') result
   pub slots : KeepsOtherFiles before.slots after.slots (name_in before.slots old.writer.slot)
   pub writes : WritesOutput before after old new result
   -- If the reading ended with a read fault, the fault was counted or the file is missing. If the reading ended without
   -- a read fault, no read fault was counted.
-  pub fault : (presented : ℕ) → result ≡ Ok (turned.Ended end.ReadFault presented) → Rose before.reading_faults after.reading_faults ⊎ IsMissing before.files asked.input
+  pub fault : (presented : ℕ) → result ≡ Ok (turned.Ended end.ReadFault presented) → HasOneMore before.reading_faults after.reading_faults ⊎ IsMissing before.files asked.input
   pub quiet : (how : End) → ended_turn result ≡ Some how → how ≢ end.ReadFault → after.reading_faults ≡ before.reading_faults
   pub asks : Asks (asked.input ∷ []) before after
   pub sink : KeepsSink out out' result
@@ -95,10 +96,10 @@ EndsOutput limit (Err e) before after o out out' waits waits' result = AbandonsO
 
 -- A possible outcome of a run after its input was scanned. The input has these bytes, and its stream has the shape
 -- `shape`.
-pub record TurnedOutcome (asked : Turning) (shape : Option Shape) (bytes : List ℕ) (fault : Type 0) (ended : Status) (text : List ℕ) (made : Option (List ℕ)) : Type 0 where
+pub record TurnedOutcome (asked : Turning) (shape : Option Shape) (bytes : List ℕ) (fault : FaultPlace → Type 0) (ended : Status) (text : List ℕ) (made : Option (List ℕ)) : Type 0 where
   pub how : End
   pub prefix : List ℕ
-  pub ends : EndsAt asked.listener.limit (Some bytes) fault how prefix
+  pub ends : EndsAt asked.listener.limit (Some bytes) (FailsAgain bytes fault) how prefix
   pub status : ended ≡ turned_status (length (skips_in asked shape (batches_by asked (records_in prefix) how))) how
   pub printed : text ≡ turned_text asked shape (batches_by asked (records_in prefix) how) how
   pub written : made ≡ Some (turned_capture asked shape (batches_by asked (records_in prefix) how))
@@ -113,7 +114,7 @@ is_of_gateway ended = true
 -- OUT was made from an input that was scanned.
 pub record TurnsFile (asked : Turning) (shape : Option Shape) (before after : ShelfState) (out out' : SinkState) (waits waits' : List ℕ) (result : Result Status Failed) : Type 0 where
   pub told : (all : Files) (bytes : List ℕ) → before.files ≡ Some all → all asked.input ≡ Some bytes → IsSome after.files → end_of asked.listener.limit bytes ≡ end.Whole
-      → Produces (TurnedOutcome asked shape bytes (Rose before.reading_faults after.reading_faults)) (Some asked.output) (written out.held waits) (written out'.held waits') before.files after.files result
+      → Produces (TurnedOutcome asked shape bytes (FailsAt before.reading_faults after.reading_faults)) (Some asked.output) (written out.held waits) (written out'.held waits') before.files after.files result
   pub files : KeepsFilesBut (Some asked.output) before.files after.files
   pub slots : KeepsSlotsBut before.files before.slots after.slots asked.output
   pub reading : CountsReading (asked.input ∷ []) before.files before.reading_faults after.reading_faults result

@@ -9,6 +9,7 @@ use Rattle.am824_gateway.specs.Gateways.{Gating}
 use Rattle.pcap_frames.specs.Capture.{Record}
 use Rattle.talker.specs.Frames.{record_of}
 use Rattle.am824_gateway.specs.Packets.{gateway_frames}
+use Rattle.avtp_base.specs.declared.failed.FaultPlace.{FaultPlace}
 use Rattle.avtp_base.specs.Files.{Files, name_in, Slots, file_of, left_in}
 use Rattle.avtp_base.specs.States.{ShelfState, SinkState, AsksNothing}
 use Rattle.capture_io.specs.CaptureWriting.{HoldsCapture}
@@ -23,7 +24,7 @@ use Rattle.listener.specs.Listening.{ListenState, StandsFor, is_closed}
 use Rattle.capture_io.specs.Ends.{EndsAt, CountsFault}
 use Rattle.capture_io.specs.Formats.{records_in}
 use Rattle.avtp_files.specs.ShelfCalls.{IsMadeIn}
-use Rattle.avtp_base.specs.Faults.{Rose}
+use Rattle.avtp_base.specs.Faults.{FailsAt, Rose}
 use Rattle.capture_io.specs.declared.end.End.TheVariants as end
 use Rattle.run_report.specs.Made.{frame_bytes}
 use Rattle.run_report.specs.Outcome.{KeepsSink}
@@ -139,7 +140,7 @@ pub record HasTurned (asked : Asked) (shape : Option Shape) (batches : List Pres
 
 -- A capture of these bytes was heard as far as it could be read. A listener presents batches from the part that was
 -- read. Every such batch was put, and `presented` counts these batches.
-pub record HasHeard (asked : Asked) (shape : Option Shape) (bytes : List ℕ) (fault : Type 0) (files : Option Files) (shelf : ShelfState) (o : Output) (how : End) (presented : ℕ) (before now : Option (List ℕ)) : Type 0 where
+pub record HasHeard (asked : Asked) (shape : Option Shape) (bytes : List ℕ) (fault : FaultPlace → Type 0) (files : Option Files) (shelf : ShelfState) (o : Output) (how : End) (presented : ℕ) (before now : Option (List ℕ)) : Type 0 where
   pub prefix : List ℕ
   pub ends : EndsAt asked.listener.limit (Some bytes) fault how prefix
   pub turned : HasTurned asked shape (batches_by asked (records_in prefix) how) files shelf o before now
@@ -151,7 +152,7 @@ pub record IsCutShort (asked : Asked) (shape : Option Shape) (bytes : List ℕ) 
   pub lines : AppendsPrefix before now (flat_map skipped_line (skips_in asked shape (batches_by asked (records_in (take asked.listener.limit bytes)) end.Whole)))
   pub holds : HoldsFirst files shelf o.writer asked.output (map record_of (turned_frames asked shape (batches_by asked (records_in (take asked.listener.limit bytes)) end.Whole)))
 
-abbrev pub TurnsTo : Asked → Option Shape → List ℕ → Type 0 → Option Files → ShelfState → Output → Option (List ℕ) → Option (List ℕ) → Result Turned Failed → Type 0
+abbrev pub TurnsTo : Asked → Option Shape → List ℕ → (FaultPlace → Type 0) → Option Files → ShelfState → Output → Option (List ℕ) → Option (List ℕ) → Result Turned Failed → Type 0
 TurnsTo asked shape bytes fault files shelf o before now (Ok (turned.Ended how presented)) = HasHeard asked shape bytes fault files shelf o how presented before now
 TurnsTo asked shape bytes fault files shelf o before now other = IsCutShort asked shape bytes files shelf o before now
 
@@ -171,12 +172,12 @@ pub record WritesOutput (before after : ShelfState) (old new : Output) (result :
   pub unwritten : OnErr (wrote_all result) (Rose before.writing_faults after.writing_faults)
   pub written : OnOk (wrote_all result) (after.writing_faults ≡ before.writing_faults)
   pub falls : before.writing_faults ≤ after.writing_faults
-  pub reading : before.reading_faults ≤ after.reading_faults
+  pub reading : before.reading_faults.count ≤ after.reading_faults.count
 
 -- A capture was converted, as far as it could be read and written.
 pub record Turns (before after : ShelfState) (source source' : Sourcing) (listener : ListenState) (old new : Output) (out out' : SinkState) (waits waits' : List ℕ) (result : Result Turned Failed) : Type 0 where
   pub told : (asked : Asked) (shape : Option Shape) (bytes : List ℕ) (files : Option Files) → IsToTurn asked shape bytes files before source listener old
-      → TurnsTo asked shape bytes (Rose before.reading_faults after.reading_faults) files after new (written out.held waits) (written out'.held waits') result
+      → TurnsTo asked shape bytes (FailsAt before.reading_faults after.reading_faults) files after new (written out.held waits) (written out'.held waits') result
   pub slot : slot_of source' ≡ slot_of source
   -- Each slot keeps its file. The unread bytes change only in slots of two kinds: the slot that is read, and slots of
   -- the file that is written.

@@ -1,5 +1,5 @@
 -- Only private functions and proofs use these definitions. What `talk` prints and how it ends.
-use Rattle.std.specs.Prelude.{None, length, ◌≤◌, ◌<◌, ◌≡◌, ◌≢◌, ℕ, List, Option, Result, Ok, IfOk, [], ◌∷◌, IsErrOf, IsOk, OnErr, OnOk, slice_get, Some, if◌then◌else◌}
+use Rattle.std.specs.Prelude.{None, length, ◌≤◌, ◌<◌, ◌≡◌, ◌≢◌, ℕ, List, Option, Result, Ok, IfOk, [], ◌∷◌, IsErrOf, IsOk, OnErr, OnOk, slice_get, Some, if◌then◌else◌, ⊤}
 use Rattle.avtp_base.specs.declared.failed.Failed.{Failed}
 use Rattle.avtp_base.specs.Files.{Files, KeepsFiles, PutsFile}
 use Rattle.capture_io.specs.Writing.{MakesPrefix, KeepsSlotsBut}
@@ -117,12 +117,16 @@ pub record Talks (Outcome : Status → List ℕ → Type 0) (name bytes : List �
   pub writes : WritesOnly shelf shelf' name result
   pub sink : KeepsSink out out' result
 
+-- the contents are the bytes that were read of a file with these bytes, and where the reading stopped
+abbrev pub IsRead : List ℕ → Contents → Type 0
+IsRead bytes contents = IsContents most_input bytes (λ place. ⊤) contents.stop contents.bytes.items
+
 -- The task of the call was to make a capture from an input. The call gave out the text of one of the possible outcomes
 -- for the bytes that were read from the input.
 pub record TalksContents (plan : TalkPlan) (contents : Contents) (name : List ℕ) (shelf shelf' : ShelfState)
     (out out' : SinkState) (waits waits' : List ℕ) (result : Result Status Failed) : Type 0 where
-  pub tells : (bytes : List ℕ) → IsContents most_input bytes contents.stop contents.bytes.items → TellsText (OutcomeWith (TalkedOutcome plan bytes (contents.stop ≡ stop.Fault)) shelf.files shelf'.files) (written out.held waits) (written out'.held waits') result
-  pub makes : (bytes : List ℕ) → IsContents most_input bytes contents.stop contents.bytes.items → Makes name (capture plan bytes) shelf.files shelf'.files result
+  pub tells : (bytes : List ℕ) → IsRead bytes contents → TellsText (OutcomeWith (TalkedOutcome plan bytes (contents.stop ≡ stop.Fault)) shelf.files shelf'.files) (written out.held waits) (written out'.held waits') result
+  pub makes : (bytes : List ℕ) → IsRead bytes contents → Makes name (capture plan bytes) shelf.files shelf'.files result
   pub writes : WritesOnly shelf shelf' name result
   pub counts : FaultStops contents.stop result
   pub sink : KeepsSink out out' result

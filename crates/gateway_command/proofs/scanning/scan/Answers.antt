@@ -1,5 +1,5 @@
 use Rattle.std.proofs.Common.{ℕ, None}
-use Rattle.avtp_base.specs.Faults.{Rose}
+use Rattle.avtp_base.specs.Faults.{FailsAt}
 use Rattle.capture_io.specs.Ends.{CountsFault}
 use Rattle.run_report.proofs.DoesFile.{around}
 use Rattle.run_report.proofs.Leaving.{read_through}
@@ -18,7 +18,7 @@ returns g c =
     record {
       told = λ all is.
           let bytes = opened.begun all is in
-          (bytes.0, bytes.1, around (λ (r q : ℕ). ScansTo (format_of asked.to) asked.listener.stream asked.listener.limit bytes.0 (Rose r q) found) before closed.reading (scanned.told asked.listener.limit bytes.0 bytes.2));
+          (bytes.0, bytes.1, around (λ earlier later. ScansTo (format_of asked.to) asked.listener.stream asked.listener.limit bytes.0 (FailsAt earlier later) found) before closed.reading (scanned.told asked.listener.limit bytes.0 bytes.2));
       keeps = read_through opened.tries.opened scanned.reads.reads closed;
       missing = λ e. absurd cc;
       refused = tt;
