@@ -57,9 +57,16 @@ pub record CountsCall (old new : MemoryShelf) : Type 0 where
 
 -- ---- the effects of a call beyond its effects on every shelf
 
--- A call to open or make a file. The call returned `Failed` if and only if its number is one of `failing_calls`. The
--- call was counted.
+-- A call to open a file. The call returned `Failed` if and only if its number is one of `failing_calls`. If it returned
+-- `Failed`, the place of the fault is shown. The call was counted.
 pub record OpensByNumber (old new : MemoryShelf) (result : Result Slot OpenFault) : Type 0 where
+  pub failed : IsErrOf result open_fault.Failed ↔ IsToFail old
+  pub place : IsErrOf result open_fault.Failed → (reading_of new).last ≡ Some fault_place.Opening
+  pub call : CountsCall old new
+
+-- A call to make a file. The call returned `Failed` if and only if its number is one of `failing_calls`. The call was
+-- counted.
+pub record MakesByNumber (old new : MemoryShelf) (result : Result Slot OpenFault) : Type 0 where
   pub failed : IsErrOf result open_fault.Failed ↔ IsToFail old
   pub call : CountsCall old new
 

@@ -89,14 +89,14 @@ impl MemoryShelf {
 impl Shelf for MemoryShelf {
     ghost use Rattle.std.specs.Prelude.{length};
     ghost use Rattle.avtp_memory.specs.state.MemoryFiles.{told_of_live};
-    ghost use Rattle.avtp_memory.specs.MemoryShelf.{OpensByNumber, ReadsByNumber, WritesByNumber, KeepsNumber};
+    ghost use Rattle.avtp_memory.specs.MemoryShelf.{OpensByNumber, MakesByNumber, ReadsByNumber, WritesByNumber, KeepsNumber};
     ghost use Rattle.avtp_memory.specs.state.MemoryShelf.{state_of};
 
     ghost state = { state_of };
 
     ghost opens = { λ old new name result. OpensByNumber old new result };
 
-    ghost makes = { λ old new name result. OpensByNumber old new result };
+    ghost makes = { λ old new name result. MakesByNumber old new result };
 
     ghost reads = { λ old new slot buffer result. ReadsByNumber old new slot (length buffer) result };
 
