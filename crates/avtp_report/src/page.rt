@@ -151,13 +151,7 @@ fn write_stream<W: Write>(
 ) -> io::Result<()> {
     write!(out, "<section class=\"stream\" id=\"s{place}\"><h3>")?;
     write_name(out, stream)?;
-    let words = InWords(stream.format, stream.count);
-    let packets = Packets(stream.packets);
-    let source = Address(stream.sender.source);
-    writeln!(
-        out,
-        "</h3><p class=\"faint\">{words}. {packets} from {source}.</p>"
-    )?;
+    write_facts(out, stream)?;
     if verdicts.is_empty() {
         writeln!(out, "<p class=\"good\">Nothing is wrong with it.</p>")?;
     } else {
@@ -166,16 +160,36 @@ fn write_stream<W: Write>(
         writeln!(out, "</div>")?;
     }
     let folded = verdicts.is_empty() && reading.report.streams.len() > MOST_UNFOLDED;
+    write_pictures(out, stream, folded, reading.report.duration)?;
+    writeln!(out, "</section>")
+}
+
+/// Ends a stream's heading, and writes what is sent in the stream.
+fn write_facts<W: Write>(out: &mut W, stream: &Stream) -> io::Result<()> {
+    let words = InWords(stream.format, stream.count);
+    let packets = Packets(stream.packets);
+    let source = Address(stream.sender.source);
+    writeln!(
+        out,
+        "</h3><p class=\"faint\">{words}. {packets} from {source}.</p>"
+    )
+}
+
+fn write_pictures<W: Write>(
+    out: &mut W,
+    stream: &Stream,
+    folded: bool,
+    duration: u64,
+) -> io::Result<()> {
     if folded {
         writeln!(out, "<details><summary>Pictures</summary>")?;
     }
-    let duration = reading.report.duration;
     write_chart(out, stream, Shown::Lead, duration)?;
     write_chart(out, stream, Shown::Distance, duration)?;
     if folded {
         writeln!(out, "</details>")?;
     }
-    writeln!(out, "</section>")
+    Ok(())
 }
 
 fn write_rows<W: Write>(alloc: Global, out: &mut W, told: &Told<'_>) -> io::Result<()> {
@@ -191,16 +205,19 @@ fn write_rows<W: Write>(alloc: Global, out: &mut W, told: &Told<'_>) -> io::Resu
     writeln!(out, "</tr></thead><tbody>")?;
     for place in told.order.iter() {
         if let Some(stream) = told.reading.report.streams.get(*place) {
-            write!(out, "<tr>")?;
-            let cells = cells_of(alloc, stream)?;
-            for (heading, cell) in HEADINGS.iter().zip(cells.iter()) {
-                let name = heading.name;
-                write!(out, "<td data-name=\"{name}\">{cell}</td>")?;
-            }
-            writeln!(out, "</tr>")?;
+            write_row(out, &cells_of(alloc, stream)?)?;
         }
     }
     writeln!(out, "</tbody></table></div>")
+}
+
+fn write_row<W: Write>(out: &mut W, cells: &[String]) -> io::Result<()> {
+    write!(out, "<tr>")?;
+    for (heading, cell) in HEADINGS.iter().zip(cells.iter()) {
+        let name = heading.name;
+        write!(out, "<td data-name=\"{name}\">{cell}</td>")?;
+    }
+    writeln!(out, "</tr>")
 }
 
 fn write_others<W: Write>(out: &mut W, reading: &Reading) -> io::Result<()> {

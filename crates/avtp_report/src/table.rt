@@ -39,13 +39,18 @@ fn rows_of(alloc: Global, told: &Told<'_>) -> io::Result<Rows> {
     for place in told.order.iter() {
         if let Some(stream) = told.reading.report.streams.get(*place) {
             let row = cells_of(alloc, stream)?;
-            for (width, cell) in widths.iter_mut().zip(row.iter()) {
-                *width = (*width).max(cell.len());
-            }
+            widen(&mut widths, &row);
             rows.push(row)?;
         }
     }
     Ok(Rows { rows, widths })
+}
+
+/// Makes each column as wide as its cell in this row.
+fn widen(widths: &mut [usize], row: &[String]) {
+    for (width, cell) in widths.iter_mut().zip(row.iter()) {
+        *width = (*width).max(cell.len());
+    }
 }
 
 fn write_headings<W: Write>(out: &mut W, widths: &[usize]) -> io::Result<()> {

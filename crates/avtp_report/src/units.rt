@@ -140,14 +140,22 @@ pub struct Escaped<'a>(pub &'a str);
 impl fmt::Display for Escaped<'_> {
     fn fmt<W: fmt::Write>(&self, f: &mut fmt::Formatter<W>) -> fmt::Result {
         for c in self.0.chars() {
-            match c {
-                '&' => write!(f, "&amp;")?,
-                '<' => write!(f, "&lt;")?,
-                '>' => write!(f, "&gt;")?,
-                '"' => write!(f, "&quot;")?,
-                _ => write!(f, "{c}")?,
+            match entity_of(c) {
+                Some(entity) => f.write_str(entity)?,
+                None => f.write_char(c)?,
             }
         }
         Ok(())
+    }
+}
+
+/// What stands for a character that has a meaning in HTML.
+fn entity_of(c: char) -> Option<&'static str> {
+    match c {
+        '&' => Some("&amp;"),
+        '<' => Some("&lt;"),
+        '>' => Some("&gt;"),
+        '"' => Some("&quot;"),
+        _ => None,
     }
 }

@@ -6,7 +6,7 @@ use avtp_base::rows::refused;
 use pcapng_frames::Ng;
 use std::alloc::Global;
 use std::test::Fail;
-use vectors_avtp::{bytes_of, row_of};
+use vectors_avtp::{bytes_of, check_rows, told_when_cut};
 
 /// A way of reading in which no call fails and the limit is never reached.
 const FREE: Way = Way {
@@ -83,19 +83,11 @@ pcapng len=28 0100000020000000010000000000000009000100090000000300010020000000 =
 /// The result is the same in pieces of one byte and of 65,536 bytes.
 #[test]
 fn a_capture_is_read_up_to_what_refuses_it(rt: HostRuntime) -> Result<(), Fail> {
-    for line in CAPTURES.lines() {
-        if line.starts_with("//") {
-            continue;
-        }
-        let (row, wanted) = row_of(line)?;
-        let capture = bytes_of(rt.alloc(), row)?;
-        for most in [1usize, 65_536] {
-            let found = told(rt.alloc(), &capture, Way { most, ..FREE })?;
-            assert!(rt;
-                found.trim() == wanted,
-                "{row} in pieces of {most}: {found}"
-            );
-        }
+    let alloc = rt.alloc();
+    for most in [1usize, 65_536] {
+        check_rows(CAPTURES, |row| {
+            told(alloc, &bytes_of(alloc, row)?, Way { most, ..FREE })
+        })?;
     }
     Ok(())
 }
@@ -105,28 +97,16 @@ const CUT: &str = "\
 pcap => 0: magic at 0 short; 4: version_major at 4 short; 6: version_minor at 6 short; 8: thiszone at 8 short; 12: sigfigs at 12 short; 16: snaplen at 16 short; 20: network at 20 short; 24: Some(Whole); 25: ts_sec at 24 short; 28: ts_fraction at 28 short; 32: incl_len at 32 short; 36: orig_len at 36 short; 40: packet_bytes at 40 short; 106: 1000000000 66 66, Some(Whole);
 pcapng => 0: magic at 0 short; 4: block_length at 4 short; 8: block_body at 8 short; 28: Some(Whole); 29: block_type at 28 short; 32: block_length at 32 short; 36: block_body at 36 short; 60: Some(Whole); 61: block_type at 60 short; 64: block_length at 64 short; 68: block_body at 68 short; 160: 1000000000 66 66, Some(Whole);";
 
-/// The results of reading a capture that is cut off: each length at which the result changes, and the new result.
-fn answers_when_cut(alloc: Global, capture: &[u8]) -> Result<String, Fail> {
-    let mut all = String::new(alloc);
-    let mut last = String::new(alloc);
-    for len in 0..=capture.len() {
-        let now = told(alloc, capture.get(..len).unwrap_or(&[]), FREE)?;
-        if now != last {
-            all.push_str(format!(in alloc; "{len}: {now}; ")?.as_str())?;
-        }
-        last = now;
-    }
-    Ok(all)
-}
-
 #[test]
 fn a_short_capture_is_refused_by_the_field_that_is_cut_off(rt: HostRuntime) -> Result<(), Fail> {
-    for line in CUT.lines() {
-        let (row, wanted) = row_of(line)?;
-        let found = answers_when_cut(rt.alloc(), &bytes_of(rt.alloc(), row)?)?;
-        assert!(rt; found.trim() == wanted, "{row}: {found}");
-    }
-    Ok(())
+    let alloc = rt.alloc();
+    check_rows(CUT, |row| {
+        told_when_cut(
+            alloc,
+            &bytes_of(alloc, row)?,
+            |capture| told(alloc, capture, FREE),
+        )
+    })
 }
 
 /// A capture of two records, the first of 66 bytes, the second of one byte.
@@ -142,21 +122,21 @@ const ENDS: &str = "\
 123 3 => 1000000000 66 66, Some(ReadFault)
 123 4 => 1000000000 66 66, 2000000500 1 1, Some(ReadFault)";
 
+/// What is read of the two records, with the limit and the call that fails of a row.
+fn told_of_two(alloc: Global, row: &str) -> Result<String, Fail> {
+    let (limit, fails) = row.split_once(' ').ok_or("a row without a call")?;
+    let way = Way {
+        most: 106,
+        limit: limit.parse()?,
+        fails: fails.parse()?,
+    };
+    told(alloc, &bytes_of(alloc, TWO)?, way)
+}
+
 #[test]
 fn reading_ends_at_a_limit_or_at_a_call_that_fails(rt: HostRuntime) -> Result<(), Fail> {
-    let capture = bytes_of(rt.alloc(), TWO)?;
-    for line in ENDS.lines() {
-        let (row, wanted) = row_of(line)?;
-        let (limit, fails) = row.split_once(' ').ok_or("a row without a call")?;
-        let way = Way {
-            most: 106,
-            limit: limit.parse()?,
-            fails: fails.parse()?,
-        };
-        let found = told(rt.alloc(), &capture, way)?;
-        assert!(rt; found.as_str() == wanted, "{row}: {found}");
-    }
-    Ok(())
+    let alloc = rt.alloc();
+    check_rows(ENDS, |row| told_of_two(alloc, row))
 }
 
 /// The reader accepts at most 256 interfaces in a section.

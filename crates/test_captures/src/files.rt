@@ -10,7 +10,7 @@ use capture_io::{FileWriter, read_contents};
 use std::alloc::Global;
 use std::test::Fail;
 use std::{fs, io};
-use vectors_avtp::row_of;
+use vectors_avtp::check_rows;
 
 /// A value that is encoded as its own bytes.
 #[derive(Drop)]
@@ -83,26 +83,26 @@ const WRITES: &str = "\
 3 => false Some(30000)
 5 => false Some(70000)";
 
+/// What becomes of both writes, if this call fails.
+fn written_with(alloc: Global, fails: &str) -> Result<String, Fail> {
+    let way = Way {
+        most: 30_000,
+        limit: 0,
+        fails: fails.parse()?,
+    };
+    let mut shelf = shelf_over(alloc, &[], way)?;
+    let whole = write_twice(alloc, &mut shelf, "b", &[7; 40_000])?;
+    let size = match shelf.file("b") {
+        Some(bytes) => Some(bytes.len()),
+        None => None,
+    };
+    Ok(format!(in alloc; "{whole} {size:?}")?)
+}
+
 #[test]
 fn a_file_has_what_was_written_before_a_call_fails(rt: HostRuntime) -> Result<(), Fail> {
-    let piece = vec![in rt.alloc(); 7u8; 40_000]?;
-    for line in WRITES.lines() {
-        let (fails, wanted) = row_of(line)?;
-        let way = Way {
-            most: 30_000,
-            limit: 0,
-            fails: fails.parse()?,
-        };
-        let mut shelf = shelf_over(rt.alloc(), &[], way)?;
-        let whole = write_twice(rt.alloc(), &mut shelf, "b", &piece)?;
-        let size = match shelf.file("b") {
-            Some(bytes) => Some(bytes.len()),
-            None => None,
-        };
-        let found = format!(in rt.alloc(); "{whole} {size:?}")?;
-        assert!(rt; found.as_str() == wanted, "{line}: {found}");
-    }
-    Ok(())
+    let alloc = rt.alloc();
+    check_rows(WRITES, |fails| written_with(alloc, fails))
 }
 
 /// The limit, the call that fails, what is then read of the file `a`, and why the file `b` cannot be opened.
@@ -111,23 +111,24 @@ const READS: &str = "\
 4 0 => abcd Limit, Missing
 5 3 => abc Fault, Missing";
 
+/// What is read of both files, with the limit and the call that fails of a row.
+fn read_both(alloc: Global, row: &str) -> Result<String, Fail> {
+    let (limit, fails) = row.split_once(' ').ok_or("a row without a call")?;
+    let way = Way {
+        most: 3,
+        limit: 0,
+        fails: fails.parse()?,
+    };
+    let mut shelf = shelf_over(alloc, b"abcde", way)?;
+    let a = read(alloc, &mut shelf, limit.parse()?, "a")?;
+    let b = read(alloc, &mut shelf, 5, "b")?;
+    Ok(format!(in alloc; "{a}, {b}")?)
+}
+
 #[test]
 fn a_file_is_read_whole_or_to_a_limit_or_to_a_fault(rt: HostRuntime) -> Result<(), Fail> {
-    for line in READS.lines() {
-        let (row, wanted) = row_of(line)?;
-        let (limit, fails) = row.split_once(' ').ok_or("a row without a call")?;
-        let way = Way {
-            most: 3,
-            limit: 0,
-            fails: fails.parse()?,
-        };
-        let mut shelf = shelf_over(rt.alloc(), b"abcde", way)?;
-        let mut found = read(rt.alloc(), &mut shelf, limit.parse()?, "a")?;
-        found.push_str(", ")?;
-        found.push_str(read(rt.alloc(), &mut shelf, 5, "b")?.as_str())?;
-        assert!(rt; found.as_str() == wanted, "{row}: {found}");
-    }
-    Ok(())
+    let alloc = rt.alloc();
+    check_rows(READS, |row| read_both(alloc, row))
 }
 
 #[test]

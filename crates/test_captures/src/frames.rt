@@ -3,7 +3,7 @@
 use pcap_frames::read_frame;
 use std::alloc::Global;
 use std::test::Fail;
-use vectors_avtp::{bytes_of, refusal_text, row_of};
+use vectors_avtp::{bytes_of, check_rows, refusal_text, told_when_cut};
 
 /// Frames, and what is read from each: the addresses, the tag, the EtherType, the offset of the payload, and the
 /// payload.
@@ -31,45 +31,27 @@ fn told(alloc: Global, frame: &[u8]) -> Result<String, Fail> {
 
 #[test]
 fn each_field_of_a_frame_is_read_from_its_bits(rt: HostRuntime) -> Result<(), Fail> {
-    for line in FRAMES.lines() {
-        if line.starts_with("//") {
-            continue;
-        }
-        let (row, wanted) = row_of(line)?;
-        let found = told(rt.alloc(), &bytes_of(rt.alloc(), row)?)?;
-        assert!(rt; found.trim() == wanted, "{row}: {found}");
-    }
-    Ok(())
+    let alloc = rt.alloc();
+    check_rows(FRAMES, |row| told(alloc, &bytes_of(alloc, row)?))
 }
 
 /// Frames that are cut off: each length where the result of reading changes, and the new result.
 const CUT: &str = "\
-frame len=18 => 0: destination at 0 short, 6: source at 6 short, 12: ethertype at 12 short, 14: tag_control at 14 short, 16: ethertype at 16 short, 18: read,
-frame len=12 22f0 => 0: destination at 0 short, 6: source at 6 short, 12: ethertype at 12 short, 14: read,";
+frame len=18 => 0: destination at 0 short; 6: source at 6 short; 12: ethertype at 12 short; 14: tag_control at 14 short; 16: ethertype at 16 short; 18: read;
+frame len=12 22f0 => 0: destination at 0 short; 6: source at 6 short; 12: ethertype at 12 short; 14: read;";
 
-/// The results of reading a frame that is cut off: each length at which the result changes, and the new result.
-fn answers_when_cut(alloc: Global, frame: &[u8]) -> Result<String, Fail> {
-    let mut all = String::new(alloc);
-    let mut last = String::new(alloc);
-    for len in 0..=frame.len() {
-        let now = match read_frame(frame.get(..len).unwrap_or(&[])) {
-            Err(refusal) => refusal_text(alloc, refusal)?,
-            Ok(_) => String::from_str(alloc, "read")?,
-        };
-        if now != last {
-            all.push_str(format!(in alloc; "{len}: {now}, ")?.as_str())?;
-        }
-        last = now;
-    }
-    Ok(all)
+/// The refusal of a frame, or else `read`.
+fn answer(alloc: Global, frame: &[u8]) -> Result<String, Fail> {
+    Ok(match read_frame(frame) {
+        Err(refusal) => refusal_text(alloc, refusal)?,
+        Ok(_) => String::from_str(alloc, "read")?,
+    })
 }
 
 #[test]
 fn a_short_frame_is_refused_by_the_field_that_is_cut_off(rt: HostRuntime) -> Result<(), Fail> {
-    for line in CUT.lines() {
-        let (row, wanted) = row_of(line)?;
-        let found = answers_when_cut(rt.alloc(), &bytes_of(rt.alloc(), row)?)?;
-        assert!(rt; found.trim() == wanted, "{row}: {found}");
-    }
-    Ok(())
+    let alloc = rt.alloc();
+    check_rows(CUT, |row| {
+        told_when_cut(alloc, &bytes_of(alloc, row)?, |frame| answer(alloc, frame))
+    })
 }

@@ -5,7 +5,7 @@ ghost use Rattle.std.specs.Prelude.{◌≡◌, ◌≤◌, length, IfSome};
 use cvf_format::{Assembler, Lost, Mark, NalPart, Piece, Pushed, read_cvf};
 use std::alloc::Global;
 use std::test::Fail;
-use vectors_avtp::{bytes_of, row_of};
+use vectors_avtp::{bytes_of, check_rows};
 
 /// Pushes a packet. `None` if the packet cannot be read or does not meet the conditions of `Assembler::push`. The
 /// instant of the packet is its own timestamp.
@@ -86,20 +86,22 @@ const ROWS: &str = "\
 // No unit continues across a cut.
 cut, 2=00 28=7c85, 2=01 28=7c05, cut, 2=02 28=7c45, 2=03 28=65 => ; Held ; Held ; -2 -3 ; Lost(Broken) ; Whole 6542000a;";
 
+/// What becomes of each packet and of each cut.
+fn outcomes(alloc: Global, row: &str) -> Result<String, Fail> {
+    let mut assembler = Assembler::new(alloc)?;
+    let mut text = String::new(alloc);
+    for (before, words) in row.split(", ").enumerate() {
+        let frame = (before as u64).saturating_add(1);
+        text.push_str(outcome(alloc, &mut assembler, frame, words)?.as_str())?;
+        text.push_str("; ")?;
+    }
+    Ok(text)
+}
+
 #[test]
 fn a_unit_is_whole_if_its_fragments_go_on_with_each_other(rt: HostRuntime) -> Result<(), Fail> {
-    for line in ROWS.lines().filter(|line| !line.starts_with("//")) {
-        let (row, wanted) = row_of(line)?;
-        let mut assembler = Assembler::new(rt.alloc())?;
-        let mut found = String::new(rt.alloc());
-        for (before, words) in row.split(", ").enumerate() {
-            let frame = (before as u64).saturating_add(1);
-            found.push_str(outcome(rt.alloc(), &mut assembler, frame, words)?.as_str())?;
-            found.push_str("; ")?;
-        }
-        assert!(rt; found.trim() == wanted, "{row}: {found}");
-    }
-    Ok(())
+    let alloc = rt.alloc();
+    check_rows(ROWS, |row| outcomes(alloc, row))
 }
 
 /// Pushes all fragments of one unit. `fragments` is the number of fragments. All fragments but the last have equal

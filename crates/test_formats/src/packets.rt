@@ -3,7 +3,7 @@
 use avtp_packet::{read_packet, reserved, stamp_is_wrong, stream_of};
 use std::alloc::Global;
 use std::test::Fail;
-use vectors_avtp::{bytes_of, row_of};
+use vectors_avtp::{bytes_of, check_rows, row_of};
 
 /// Packets, and what is read from each of them.
 const FIELDS: &str = "\
@@ -134,21 +134,23 @@ fn turn(packet: &mut [u8], at: usize, bit: u8) {
     }
 }
 
+/// Each byte of a packet that has reserved bits: its offset, and these bits.
+fn reserved_text(alloc: Global, row: &str) -> Result<String, Fail> {
+    let mut packet = bytes_of(alloc, row)?;
+    let mut text = String::new(alloc);
+    for at in 0..packet.len() {
+        let bits = reserved_bits(&mut packet, at);
+        if bits != 0 {
+            text.push_str(format!(in alloc; "{at}={bits:02x} ")?.as_str())?;
+        }
+    }
+    Ok(text)
+}
+
 #[test]
 fn a_reserved_bit_is_free_and_told(rt: HostRuntime) -> Result<(), Fail> {
-    for line in RESERVED.lines().filter(|line| !line.starts_with("//")) {
-        let (row, wanted) = row_of(line)?;
-        let mut packet = bytes_of(rt.alloc(), row)?;
-        let mut found = String::new(rt.alloc());
-        for at in 0..packet.len() {
-            let bits = reserved_bits(&mut packet, at);
-            if bits != 0 {
-                found.push_str(format!(in rt.alloc(); "{at}={bits:02x} ")?.as_str())?;
-            }
-        }
-        assert!(rt; found.trim() == wanted, "{row}: {found}");
-    }
-    Ok(())
+    let alloc = rt.alloc();
+    check_rows(RESERVED, |row| reserved_text(alloc, row))
 }
 
 /// The stream of a packet of each supported format, and of a packet of another format.
@@ -159,14 +161,13 @@ h264 4=0000000000000001 => Some(PacketStream { subtype: 3, id: 1, sv: true, seq:
 crf 1=08 2=09 => Some(PacketStream { subtype: 4, id: 144115188075921410, sv: false, seq: 9, mr: true })
 6e => None";
 
+fn stream_text(alloc: Global, packet: &[u8]) -> Result<String, Fail> {
+    let packet = read_packet(packet).ok().ok_or("a packet is refused")?;
+    Ok(format!(in alloc; "{:?}", stream_of(&packet))?)
+}
+
 #[test]
 fn a_packet_belongs_to_a_stream_of_its_format(rt: HostRuntime) -> Result<(), Fail> {
-    for line in STREAMS.lines().filter(|line| !line.starts_with("//")) {
-        let (row, wanted) = row_of(line)?;
-        let packet = bytes_of(rt.alloc(), row)?;
-        let packet = read_packet(&packet).ok().ok_or("a packet is refused")?;
-        let found = format!(in rt.alloc(); "{:?}", stream_of(&packet))?;
-        assert!(rt; found.trim() == wanted, "{row}: {found}");
-    }
-    Ok(())
+    let alloc = rt.alloc();
+    check_rows(STREAMS, |row| stream_text(alloc, &bytes_of(alloc, row)?))
 }

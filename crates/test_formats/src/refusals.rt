@@ -9,7 +9,7 @@ use cvf_format::read_cvf;
 use iec61883_format::read_iec;
 use std::alloc::Global;
 use std::test::Fail;
-use vectors_avtp::{bytes_of, refusal_text, row_of};
+use vectors_avtp::{bytes_of, check_rows, refusal_text, told_when_cut};
 
 /// `read` if the packet is read, otherwise the refusal.
 fn answer(alloc: Global, packet: &[u8]) -> Result<String, Fail> {
@@ -152,50 +152,41 @@ crf 12=a0000001000800 19=00 => timestamp_interval at 18
 
 #[test]
 fn the_first_row_that_holds_refuses(rt: HostRuntime) -> Result<(), Fail> {
-    for line in REFUSALS.lines() {
-        let (row, wanted) = row_of(line)?;
-        let found = answer(rt.alloc(), &bytes_of(rt.alloc(), row)?)?;
-        assert!(rt; found.trim() == wanted, "{row}: {found}");
-    }
-    Ok(())
+    let alloc = rt.alloc();
+    check_rows(REFUSALS, |row| answer(alloc, &bytes_of(alloc, row)?))
 }
+
+/// Packets that are cut off: each length at which the answer changes, and the new answer.
+const CUT: &str = "\
+aaf => STREAM 48: read;
+iec => STREAM 80: read;
+h264 => STREAM 32: read;
+h264 28=7c85 => STREAM 32: read;
+crf => CRF 28: read;";
 
 /// The refusals of a stream header that is cut off, each with the first length at which it occurs.
 const STREAM_HEADER: &str =
-    "0: subtype at 0 short, 1: version at 1 short, 2: sequence_num at 2 short, 3: tu at 3 short, 4: stream_id at 4 short, 12: avtp_timestamp at 12 short, 16: format_data at 16 short, 20: stream_data_length at 20 short, 22: format_flags at 22 short, 24: stream_data_length at 20, ";
+    "0: subtype at 0 short; 1: version at 1 short; 2: sequence_num at 2 short; 3: tu at 3 short; 4: stream_id at 4 short; 12: avtp_timestamp at 12 short; 16: format_data at 16 short; 20: stream_data_length at 20 short; 22: format_flags at 22 short; 24: stream_data_length at 20;";
 
 /// The refusals of a CRF packet's header that is cut off, each with the first length at which it occurs.
 const CRF_HEADER: &str =
-    "0: subtype at 0 short, 1: version at 1 short, 2: sequence_num at 2 short, 3: crf_type at 3 short, 4: stream_id at 4 short, 12: base_frequency at 12 short, 16: crf_data_length at 16 short, 18: timestamp_interval at 18 short, 20: crf_data_length at 16, ";
+    "0: subtype at 0 short; 1: version at 1 short; 2: sequence_num at 2 short; 3: crf_type at 3 short; 4: stream_id at 4 short; 12: base_frequency at 12 short; 16: crf_data_length at 16 short; 18: timestamp_interval at 18 short; 20: crf_data_length at 16;";
 
-/// The answers to a packet that is cut off, each with the first length at which it occurs.
-fn answers_when_cut(alloc: Global, packet: &[u8]) -> Result<String, Fail> {
-    let mut all = String::new(alloc);
-    let mut last = String::new(alloc);
-    for len in 0..=packet.len() {
-        let now = answer(alloc, packet.get(..len).unwrap_or(&[]))?;
-        if now != last {
-            all.push_str(format!(in alloc; "{len}: {now}, ")?.as_str())?;
-        }
-        last = now;
-    }
-    Ok(all)
+/// The answers to a packet that is cut off, with a word for the refusals of its header.
+fn answers_when_cut(alloc: Global, row: &str) -> Result<String, Fail> {
+    let told = told_when_cut(
+        alloc,
+        &bytes_of(alloc, row)?,
+        |packet| answer(alloc, packet),
+    )?;
+    let told = told.replace(alloc, STREAM_HEADER, "STREAM")?;
+    Ok(told.replace(alloc, CRF_HEADER, "CRF")?)
 }
 
 #[test]
 fn a_short_packet_is_refused_by_the_field_that_is_cut_off(rt: HostRuntime) -> Result<(), Fail> {
-    for (row, header, whole) in [
-        ("aaf", STREAM_HEADER, "48: read, "),
-        ("iec", STREAM_HEADER, "80: read, "),
-        ("h264", STREAM_HEADER, "32: read, "),
-        ("h264 28=7c85", STREAM_HEADER, "32: read, "),
-        ("crf", CRF_HEADER, "28: read, "),
-    ] {
-        let found = answers_when_cut(rt.alloc(), &bytes_of(rt.alloc(), row)?)?;
-        let wanted = format!(in rt.alloc(); "{header}{whole}")?;
-        assert_eq!(rt; found, wanted, "{row}");
-    }
-    Ok(())
+    let alloc = rt.alloc();
+    check_rows(CUT, |row| answers_when_cut(alloc, row))
 }
 
 /// A wrong subtype is reported before a wrong version.

@@ -10,7 +10,7 @@ use crate::turning::{line_of, turn_as, turn_scanned};
 use am824_gateway::{Shape, To};
 use std::alloc::Global;
 use std::test::Fail;
-use vectors_avtp::row_of;
+use vectors_avtp::check_rows;
 
 /// Streams that are converted to AM824. After `=>` are the numbers of batches and packets, what is skipped, and the
 /// instants and counts of the packets. In the first rows, batches touch, overlap, or lie apart. In later rows, packets
@@ -47,21 +47,14 @@ fn text_of(alloc: Global, to: To, records: &[Recorded]) -> Result<String, Fail> 
         line_of(alloc, &turned)?,
         batches_text(alloc, &turned.records)?,
     );
-    Ok(if batches.is_empty() {
-        format!(in alloc; "{line}:")?
-    } else {
-        format!(in alloc; "{line}: {batches}")?
-    })
+    Ok(format!(in alloc; "{line}: {batches}")?)
 }
 
 #[test]
 fn batches_are_cut_where_they_leave_the_nominal_line(rt: HostRuntime) -> Result<(), Fail> {
+    let alloc = rt.alloc();
     for (to, rows) in [(To::Am824, TO_AM824), (To::Aaf, TO_AAF)] {
-        for line in rows.lines() {
-            let (row, wanted) = row_of(line)?;
-            let came = text_of(rt.alloc(), to, &changed(rt.alloc(), row)?)?;
-            assert!(rt; came.as_str() == wanted, "{row}: {came}");
-        }
+        check_rows(rows, |row| text_of(alloc, to, &changed(alloc, row)?))?;
     }
     Ok(())
 }
@@ -101,17 +94,18 @@ fn shape_in(words: &str) -> Option<Shape>
     }
 }
 
+/// What a gateway for the shape of a row makes from the row's streams.
+fn turned_as(alloc: Global, row: &str) -> Result<String, Fail> {
+    let (shape, streams) = row.split_once('|').ok_or("a row without a shape")?;
+    let records = changed(alloc, streams)?;
+    let turned = turn_as(alloc, To::Am824, shape_in(shape), &records, 0)?;
+    Ok(line_of(alloc, &turned)?)
+}
+
 #[test]
 fn batches_of_another_shape_are_skipped(rt: HostRuntime) -> Result<(), Fail> {
-    for line in SHAPES.lines() {
-        let (row, wanted) = row_of(line)?;
-        let (shape, streams) = row.split_once('|').ok_or("a row without a shape")?;
-        let records = changed(rt.alloc(), streams)?;
-        let turned = turn_as(rt.alloc(), To::Am824, shape_in(shape), &records, 0)?;
-        let came = line_of(rt.alloc(), &turned)?;
-        assert!(rt; came.as_str() == wanted, "{row}: {came}");
-    }
-    Ok(())
+    let alloc = rt.alloc();
+    check_rows(SHAPES, |row| turned_as(alloc, row))
 }
 
 /// A stream of PCM, and one of the frames that the stream is converted to. The frame is given by its index, its
@@ -141,16 +135,17 @@ fn start_of(alloc: Global, records: &[Recorded], place: usize) -> Result<String,
     Ok(format!(in alloc; "{arrival} {head} {stamp} {rest}")?)
 }
 
+/// The start of the frame that a row names, of those that the row's streams are converted to.
+fn start_in(alloc: Global, row: &str) -> Result<String, Fail> {
+    let (streams, place) = row.split_once('|').ok_or("a row without a place")?;
+    let turned = turn_scanned(alloc, To::Am824, &changed(alloc, streams)?, 0)?;
+    start_of(alloc, &turned.records, place.trim().parse()?)
+}
+
 #[test]
 fn block_counts_are_raised_to_the_interval(rt: HostRuntime) -> Result<(), Fail> {
-    for line in FRAMES.lines() {
-        let (row, wanted) = row_of(line)?;
-        let (streams, place) = row.split_once('|').ok_or("a row without a place")?;
-        let turned = turn_scanned(rt.alloc(), To::Am824, &changed(rt.alloc(), streams)?, 0)?;
-        let came = start_of(rt.alloc(), &turned.records, place.trim().parse()?)?;
-        assert!(rt; came.as_str() == wanted, "{row}: {came}");
-    }
-    Ok(())
+    let alloc = rt.alloc();
+    check_rows(FRAMES, |row| start_in(alloc, row))
 }
 
 /// A frame of six stereo sample frames of 24 bits: as PCM, and as AM824 with each value after the label 0x40.

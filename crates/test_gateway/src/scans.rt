@@ -6,7 +6,7 @@ use am824_gateway::To;
 use avtp_base::NoMemory;
 use std::alloc::Global;
 use std::test::Fail;
-use vectors_avtp::row_of;
+use vectors_avtp::check_rows;
 
 /// Streams, bytes of frames that are changed, and what a scan for a gateway to AM824 finds: a fault and the number of
 /// its frame, or the shape. `2@34=02` sets byte 34 of the second frame to 2. In a frame of PCM, byte 18 is the subtype,
@@ -108,7 +108,7 @@ pub fn changed(alloc: Global, row: &str) -> Result<Vec<Recorded>, NoMemory> {
     Ok(records)
 }
 
-fn found(alloc: Global, to: To, records: &[Recorded]) -> Result<String, NoMemory> {
+fn found(alloc: Global, to: To, records: &[Recorded]) -> Result<String, Fail> {
     Ok(match scanned(to, records) {
         Err((fault, frame)) => format!(in alloc; "{fault:?} at {frame}")?,
         Ok(None) => format!(in alloc; "none")?,
@@ -121,12 +121,9 @@ fn found(alloc: Global, to: To, records: &[Recorded]) -> Result<String, NoMemory
 
 #[test]
 fn the_first_fault_is_found(rt: HostRuntime) -> Result<(), Fail> {
+    let alloc = rt.alloc();
     for (to, rows) in [(To::Am824, TO_AM824), (To::Aaf, TO_AAF)] {
-        for line in rows.lines() {
-            let (row, wanted) = row_of(line)?;
-            let came = found(rt.alloc(), to, &changed(rt.alloc(), row)?)?;
-            assert!(rt; came.as_str() == wanted, "{row}: {came}");
-        }
+        check_rows(rows, |row| found(alloc, to, &changed(alloc, row)?))?;
     }
     Ok(())
 }

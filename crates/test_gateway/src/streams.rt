@@ -8,9 +8,8 @@ use crate::hearing::samples_of;
 use crate::turning::{line_of, turn_scanned};
 use am824_gateway::To;
 use std::alloc::Global;
-use std::process::Abort;
 use std::test::Fail;
-use vectors_avtp::row_of;
+use vectors_avtp::check_rows;
 
 /// A stream of PCM, the number of batches that a listener presents from it, and the number of AM824 packets that these
 /// batches make. A packet of AM824 has at most 1,468 bytes of quadlets.
@@ -110,56 +109,52 @@ fn are_same(a: &[Recorded], b: &[Recorded]) -> bool {
     true
 }
 
-/// Checks that a row's stream is converted to as many packets as the row says. A listener must present the same values
-/// at the same instants from the converted packets. `check` must find nothing in the converted packets. The conversion
-/// back must also keep the values and the instants, and `check` must find nothing in the packets that come from the
-/// conversion back. If AM824 that a gateway made is converted to PCM and back, the frames must stay the same.
-fn check_row(rt: &impl Abort, alloc: Global, to: To, line: &str) -> Result<(), Fail> {
-    let (words, wanted) = row_of(line)?;
+/// What is wrong with records that were converted: a listener presents other values or other instants from them, or
+/// `check` finds something in them.
+fn wrong_with(
+    alloc: Global,
+    to: To,
+    before: &[Recorded],
+    after: &[Recorded],
+) -> Result<&'static str, Fail> {
+    if !sound_alike(alloc, to, before, after)? {
+        return Ok(" heard otherwise");
+    }
+    Ok(if is_clean(alloc, after)? {
+        ""
+    } else {
+        " found"
+    })
+}
+
+/// The numbers of batches and packets that a row's stream is converted to, and what is wrong with these packets or with
+/// the packets of the conversion back. If AM824 that a gateway made is converted to PCM and back, the frames must stay
+/// the same.
+fn turned_text(alloc: Global, to: To, row: &str) -> Result<String, Fail> {
     let back = match to {
         To::Am824 => To::Aaf,
         To::Aaf => To::Am824,
     };
-    let records = records_of(alloc, words)?;
+    let records = records_of(alloc, row)?;
     let there = turn_scanned(alloc, to, &records, 0)?;
-    let came = line_of(alloc, &there)?;
-    assert!(rt; came.as_str() == wanted, "{words}: {came}");
-    assert!(rt;
-        sound_alike(alloc, to, &records, &there.records)?,
-        "{words}: heard otherwise"
-    );
-    assert!(rt; is_clean(alloc, &there.records)?, "{words}: found");
+    let wrong = wrong_with(alloc, to, &records, &there.records)?;
     let again = turn_scanned(alloc, back, &there.records, 3)?;
-    assert!(rt;
-        sound_alike(alloc, back, &there.records, &again.records)?,
-        "{words}: heard otherwise once turned back"
-    );
-    assert!(rt;
-        is_clean(alloc, &again.records)?,
-        "{words}: found once turned back"
-    );
+    let wrong_back = wrong_with(alloc, back, &there.records, &again.records)?;
     let third = turn_scanned(alloc, to, &again.records, 0)?;
-    if to == To::Am824 {
-        assert!(rt;
-            are_same(&third.records, &there.records),
-            "{words}: not the same"
-        );
-    }
-    Ok(())
+    let same = to == To::Aaf || are_same(&third.records, &there.records);
+    let changed = if same { "" } else { " changed" };
+    let line = line_of(alloc, &there)?;
+    Ok(format!(in alloc; "{line}{wrong}{wrong_back}{changed}")?)
 }
 
 #[test]
 fn pcm_is_turned_into_am824_and_back(rt: HostRuntime) -> Result<(), Fail> {
-    for line in PCM.lines() {
-        check_row(&rt, rt.alloc(), To::Am824, line)?;
-    }
-    Ok(())
+    let alloc = rt.alloc();
+    check_rows(PCM, |row| turned_text(alloc, To::Am824, row))
 }
 
 #[test]
 fn am824_is_turned_into_pcm_and_back(rt: HostRuntime) -> Result<(), Fail> {
-    for line in AM824.lines() {
-        check_row(&rt, rt.alloc(), To::Aaf, line)?;
-    }
-    Ok(())
+    let alloc = rt.alloc();
+    check_rows(AM824, |row| turned_text(alloc, To::Aaf, row))
 }

@@ -1,9 +1,9 @@
 //! What is found in the packets of small streams.
 
 use sequence_track::{Seen, Tracker};
-use std::alloc::Global;
+use std::alloc::{AllocError, Global};
 use std::test::Fail;
-use vectors_avtp::row_of;
+use vectors_avtp::check_rows;
 
 /// Notes a packet without a finding of its own, or, if `wrong` is true, a packet with both a reserved bit and a wrong
 /// timestamp. The text has what is found in the packet.
@@ -24,26 +24,23 @@ fn noted(
         reserved: wrong,
         stamp_wrong: wrong,
     });
-    let mut text = String::new(alloc);
-    if found.reserved {
-        text.push_str(" reserved")?;
-    }
-    if let Some(step) = found.step {
-        text.push_str(&format!(in alloc; " step {step}")?)?;
-    }
-    if let Some(hold) = found.hold {
-        text.push_str(&format!(in alloc; " hold {hold}")?)?;
-    }
-    if found.stamp {
-        text.push_str(" stamp")?;
-    }
-    if found.untracked {
-        text.push_str(" untracked")?;
-    }
-    Ok(text)
+    let reserved = if found.reserved { " reserved" } else { "" };
+    let stamp = if found.stamp { " stamp" } else { "" };
+    let untracked = if found.untracked { " untracked" } else { "" };
+    let step = number_text(alloc, "step", found.step.map(u32::from))?;
+    let hold = number_text(alloc, "hold", found.hold)?;
+    Ok(format!(in alloc; "{reserved}{step}{hold}{stamp}{untracked}")?)
 }
 
-/// Separate streams, each with its packets in order, and what is found in each packet. A packet has its sequence
+/// A number that was found, after its name.
+fn number_text(alloc: Global, name: &str, found: Option<u32>) -> Result<String, AllocError> {
+    match found {
+        Some(number) => format!(in alloc; " {name} {number}"),
+        None => Ok(String::new(alloc)),
+    }
+}
+
+/// Streams, each with its packets in order, and what is found in each packet. A packet has its sequence
 /// number, then `m` if its restart bit is set, and `!` if it has both a reserved bit and a wrong timestamp. `step` is
 /// the step of the sequence number, unless that step is 1. If the restart bit changes at a packet after fewer than
 /// eight packets with the previous value, `hold` is the number of those packets, unless the stream began with the
@@ -60,24 +57,23 @@ const STREAMS: &str = "\
 // The restart bit is kept for eight packets.
 0, 1m, 2m, 3m, 4m, 5m, 6m, 7m, 8m, 9 => ;;;;;;;;;;";
 
+/// What is found in each packet of a stream.
+fn noted_of(alloc: Global, row: &str) -> Result<String, Fail> {
+    let mut tracker = Tracker::begin(alloc)?;
+    let mut text = String::new(alloc);
+    for packet in row.split(", ") {
+        let (mr, wrong) = (packet.contains('m'), packet.contains('!'));
+        let seq = packet.trim_end_matches('!').trim_end_matches('m').parse()?;
+        text.push_str(&noted(alloc, &mut tracker, (7, 2), seq, mr, wrong)?)?;
+        text.push_str(";")?;
+    }
+    Ok(text)
+}
+
 #[test]
 fn each_packet_has_the_findings_of_its_stream(rt: HostRuntime) -> Result<(), Fail> {
-    let mut tracker = Tracker::begin(rt.alloc())?;
-    for (id, line) in STREAMS.lines().enumerate() {
-        if !line.starts_with("//") {
-            let (row, wanted) = row_of(line)?;
-            let mut found = String::new(rt.alloc());
-            for packet in row.split(", ") {
-                let (mr, wrong) = (packet.contains('m'), packet.contains('!'));
-                let seq = packet.trim_end_matches('!').trim_end_matches('m').parse()?;
-                let stream = (id as u64, 2);
-                found.push_str(&noted(rt.alloc(), &mut tracker, stream, seq, mr, wrong)?)?;
-                found.push_str(";")?;
-            }
-            assert!(rt; found.as_str() == wanted, "{row}: {found}");
-        }
-    }
-    Ok(())
+    let alloc = rt.alloc();
+    check_rows(STREAMS, |row| noted_of(alloc, row))
 }
 
 /// Each stream ID has two streams, with different subtypes. No packet of the 1,025th stream is tracked. The first 1,024

@@ -8,9 +8,8 @@ use avtp_base::NoMemory;
 use listener::{Heard, ListenPlan, whole};
 use sample_schedule::Shown;
 use std::alloc::Global;
-use std::process::Abort;
 use std::test::Fail;
-use vectors_avtp::row_of;
+use vectors_avtp::check_rows;
 
 /// A plan within its limits.
 pub fn plan_of(buffer: u32, room: u32, look: Option<u32>) -> ListenPlan
@@ -76,13 +75,6 @@ fn seen_of(alloc: Global, row: &str) -> Result<String, Fail> {
 }
 
 /// Checks that each row's packets are shown as the row says.
-pub fn check_rows(rt: &impl Abort, alloc: Global, rows: &str) -> Result<(), Fail> {
-    for line in rows.lines() {
-        if !line.starts_with("//") {
-            let (row, wanted) = row_of(line)?;
-            let found = seen_of(alloc, row)?;
-            assert!(rt; found.as_str() == wanted, "{row}: {found}");
-        }
-    }
-    Ok(())
+pub fn check_shown(alloc: Global, rows: &str) -> Result<(), Fail> {
+    check_rows(rows, |row| seen_of(alloc, row))
 }

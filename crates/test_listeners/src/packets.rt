@@ -1,6 +1,6 @@
 //! Packets of PCM audio, of IEC 61883-6, and of a stream with its media clock.
 
-use crate::hearing::check_rows;
+use crate::hearing::check_shown;
 use std::test::Fail;
 
 const AUDIO: &str = "\
@@ -27,7 +27,7 @@ room:30 | aaf, second, third => 2/1 Full, 3/2 Full, 1/0 at 1002000000";
 
 #[test]
 fn packets_come_in_order_once_and_within_the_buffer(rt: HostRuntime) -> Result<(), Fail> {
-    check_rows(&rt, rt.alloc(), AUDIO)
+    check_shown(rt.alloc(), AUDIO)
 }
 
 /// A changed packet, and a packet after it. The changed packet is flagged or does not belong to the stream.
@@ -62,7 +62,7 @@ aaf cut:0, second => 2/1 at 1002125000";
 /// The packet after a changed packet is presented, whatever happens to the changed packet.
 #[test]
 fn a_changed_packet_is_flagged_or_passed(rt: HostRuntime) -> Result<(), Fail> {
-    check_rows(&rt, rt.alloc(), CHANGED)
+    check_shown(rt.alloc(), CHANGED)
 }
 
 const BLOCKS: &str = "\
@@ -79,7 +79,7 @@ iec at:4997916666 ts:5000000000 22=1f => 1/0 Malformed(Tag)";
 
 #[test]
 fn blocks_are_counted_from_the_stamped_one(rt: HostRuntime) -> Result<(), Fail> {
-    check_rows(&rt, rt.alloc(), BLOCKS)
+    check_shown(rt.alloc(), BLOCKS)
 }
 
 const CLOCK: &str = "\
@@ -94,7 +94,7 @@ look:2 | crf, clocked, clocked-second, tock 1=88 => 2/0 NoClock, 3/1 NoClock";
 
 #[test]
 fn packets_are_judged_once_the_look_ahead_is_known(rt: HostRuntime) -> Result<(), Fail> {
-    check_rows(&rt, rt.alloc(), CLOCK)
+    check_shown(rt.alloc(), CLOCK)
 }
 
 /// A clock packet that is left without a valid timestamp: the version, the uncertain bit, the type or the interval is
@@ -117,5 +117,5 @@ look:2 | crf, clocked, between 11=03, tock => 2/0 at 1004000000";
 /// after the packet without points still make a line.
 #[test]
 fn a_clock_packet_without_points_is_waited_for(rt: HostRuntime) -> Result<(), Fail> {
-    check_rows(&rt, rt.alloc(), POINTLESS)
+    check_shown(rt.alloc(), POINTLESS)
 }

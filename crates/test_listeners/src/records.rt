@@ -9,37 +9,31 @@ use listener::{Counts, ListenFault, Listener};
 use sample_schedule::Shown;
 use std::alloc::Global;
 use std::test::Fail;
-use vectors_avtp::{bytes_of, row_of};
+use vectors_avtp::{bytes_of, check_rows};
 
-/// Captures of one record. Each capture is followed by the number of packets of the stream in it, each of which is
-/// presented, and by the capture's first refusal.
+/// Captures of one record, and what they count: a packet of the stream, which is presented, or none. The capture's first
+/// refusal follows.
 const ROWS: &str = "\
-pcap => 1 None
+pcap => Counts { frames: 1, packets: 1, presented: 1, flagged: 0 } None
 // a byte more
-pcap 00 => 1 Some(Refusal { field: TsSec, at: 106, short: true })
+pcap 00 => Counts { frames: 1, packets: 1, presented: 1, flagged: 0 } Some(Refusal { field: TsSec, at: 106, short: true })
 // another EtherType
-pcap 57=f1 => 0 None
+pcap 57=f1 => Counts { frames: 1, packets: 0, presented: 0, flagged: 0 } None
 // no byte after the EtherType
-pcap 32=0e 36=0e 52=22f0 len=54 => 0 None
+pcap 32=0e 36=0e 52=22f0 len=54 => Counts { frames: 1, packets: 0, presented: 0, flagged: 0 } None
 // the longest record
-pcap 32=000004 36=000004 len=40 len=262184 => 0 None";
+pcap 32=000004 36=000004 len=40 len=262184 => Counts { frames: 1, packets: 0, presented: 0, flagged: 0 } None";
+
+/// The counts of a capture, and its first refusal.
+fn counted(alloc: Global, row: &str) -> Result<String, Fail> {
+    let heard = heard(alloc, "buffer:1 room:24", &bytes_of(alloc, row)?)?;
+    Ok(format!(in alloc; "{:?} {:?}", heard.counts, heard.refused)?)
+}
 
 #[test]
 fn a_record_is_counted_whatever_it_holds(rt: HostRuntime) -> Result<(), Fail> {
-    for line in ROWS.lines() {
-        if !line.starts_with("//") {
-            let (row, wanted) = row_of(line)?;
-            let bytes = bytes_of(rt.alloc(), row)?;
-            let heard = heard(rt.alloc(), "buffer:1 room:24", &bytes)?;
-            let (packets, refused) = wanted.split_once(' ').ok_or("a row without a refusal")?;
-            let wanted = format!(in rt.alloc();
-                "Counts {{ frames: 1, packets: {packets}, presented: {packets}, flagged: 0 }} {refused}"
-            )?;
-            let found = format!(in rt.alloc(); "{:?} {:?}", heard.counts, heard.refused)?;
-            assert!(rt; found == wanted, "{row}: {found}");
-        }
-    }
-    Ok(())
+    let alloc = rt.alloc();
+    check_rows(ROWS, |row| counted(alloc, row))
 }
 
 /// Feeds a piece of a capture.

@@ -1,10 +1,10 @@
 //! Units of H.264 and their fragments.
 
-use crate::hearing::{check_rows, heard_of};
+use crate::hearing::{check_shown, heard_of};
 use sample_schedule::{Reason, Shown};
 use std::alloc::Global;
 use std::test::Fail;
-use vectors_avtp::row_of;
+use vectors_avtp::check_rows;
 
 /// If the middle fragment is captured twice, all four fragments are flagged.
 const ROWS: &str = "\
@@ -45,7 +45,7 @@ middle => 1/1 Broken";
 
 #[test]
 fn fragments_beside_each_other_make_a_unit(rt: HostRuntime) -> Result<(), Fail> {
-    check_rows(&rt, rt.alloc(), ROWS)
+    check_shown(rt.alloc(), ROWS)
 }
 
 /// Fragments, and what is presented of them: the bytes of the unit if there is only one item and it is presented, or
@@ -59,36 +59,40 @@ buffer:1 | long-first, long-middle copies:63, h264 seq:64 20=01c6 28=7c45 len=30
 // the 4,098th fragment does not continue a unit
 buffer:1 | first, middle copies:4096, middle => nothing, 4097 long, 4098 packets";
 
+/// Bytes as text, or their number if there are more than seven.
+fn bytes_text(alloc: Global, bytes: &[u8]) -> Result<String, Fail> {
+    if bytes.len() > 7 {
+        return Ok(format!(in alloc; "{} bytes", bytes.len())?);
+    }
+    Ok(format!(in alloc; "{bytes:?}")?)
+}
+
 /// The bytes of the item, if there is only one item and it is presented, as text.
 fn unit_text(alloc: Global, shown: &[Shown]) -> Result<String, Fail> {
-    Ok(match shown {
-        [Shown::Present(batch)] => match batch.bytes.as_slice() {
-            long if long.len() > 7 => format!(in alloc; "{} bytes", long.len())?,
-            short => format!(in alloc; "{short:?}")?,
-        },
-        _ => String::from_str(alloc, "nothing")?,
-    })
+    let [Shown::Present(batch)] = shown else {
+        return Ok(String::from_str(alloc, "nothing")?);
+    };
+    bytes_text(alloc, batch.bytes.as_slice())
+}
+
+/// What becomes of the fragments of a row.
+fn long_text(alloc: Global, row: &str) -> Result<String, Fail> {
+    let heard = heard_of(alloc, row)?;
+    let mut long = 0usize;
+    for shown in heard.shown.as_slice() {
+        if let Shown::Flag { reason, .. } = shown
+            && *reason == Reason::Long
+        {
+            long = long.saturating_add(1);
+        }
+    }
+    let unit = unit_text(alloc, heard.shown.as_slice())?;
+    let packets = heard.counts.packets;
+    Ok(format!(in alloc; "{unit}, {long} long, {packets} packets")?)
 }
 
 #[test]
 fn a_unit_has_at_most_4096_fragments_and_4194304_bytes(rt: HostRuntime) -> Result<(), Fail> {
-    for line in LONG.lines() {
-        if !line.starts_with("//") {
-            let (row, wanted) = row_of(line)?;
-            let heard = heard_of(rt.alloc(), row)?;
-            let mut long = 0usize;
-            for shown in heard.shown.as_slice() {
-                if let Shown::Flag { reason, .. } = shown
-                    && *reason == Reason::Long
-                {
-                    long = long.saturating_add(1);
-                }
-            }
-            let unit = unit_text(rt.alloc(), heard.shown.as_slice())?;
-            let packets = heard.counts.packets;
-            let found = format!(in rt.alloc(); "{unit}, {long} long, {packets} packets")?;
-            assert!(rt; found.as_str() == wanted, "{row}: {found}");
-        }
-    }
-    Ok(())
+    let alloc = rt.alloc();
+    check_rows(LONG, |row| long_text(alloc, row))
 }

@@ -10,7 +10,7 @@ use listener::ListenFault;
 use listener_pair::{Difference, Which};
 use std::alloc::Global;
 use std::test::Fail;
-use vectors_avtp::{bytes_of, refusal_text, row_of};
+use vectors_avtp::{bytes_of, check_rows, refusal_text};
 
 /// The captures A and B. The text after `=>` lists what is found, in order: differences where they become known, a
 /// capture's first refusal where the capture ends, and the counts.
@@ -147,20 +147,17 @@ fn compared(alloc: Global, a: &[u8], b: &[u8], most: usize) -> Result<String, Fa
     Err(Fail::from("no end"))
 }
 
+/// What is found in the two captures of a row, in pieces of this length.
+fn compared_in(alloc: Global, row: &str, most: usize) -> Result<String, Fail> {
+    let (a, b) = row.split_once('|').unwrap_or((row, ""));
+    compared(alloc, &bytes_of(alloc, a)?, &bytes_of(alloc, b)?, most)
+}
+
 #[test]
 fn captures_are_compared_alike_in_pieces_of_any_length(rt: HostRuntime) -> Result<(), Fail> {
-    for line in ROWS.lines().filter(|line| !line.starts_with("//")) {
-        let (row, wanted) = row_of(line)?;
-        let (a, b) = row.split_once('|').unwrap_or((row, ""));
-        let a = bytes_of(rt.alloc(), a)?;
-        let b = bytes_of(rt.alloc(), b)?;
-        for most in [1, 17, MOST] {
-            let found = compared(rt.alloc(), &a, &b, most)?;
-            assert!(rt;
-                found.as_str() == wanted,
-                "{line} in pieces of {most}: {found}"
-            );
-        }
+    let alloc = rt.alloc();
+    for most in [1, 17, MOST] {
+        check_rows(ROWS, |row| compared_in(alloc, row, most))?;
     }
     Ok(())
 }

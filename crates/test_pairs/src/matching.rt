@@ -10,7 +10,7 @@ use sample_schedule::Batch;
 use std::alloc::Global;
 use std::collections::VecDeque;
 use std::test::Fail;
-use vectors_avtp::row_of;
+use vectors_avtp::check_rows;
 
 /// The batches of A, and the batches of B. After `=>` are the differences and counts that the matching returns.
 const ROWS: &str = "\
@@ -97,15 +97,9 @@ fn matched(alloc: Global, mut a: VecDeque<Batch>, mut b: VecDeque<Batch>) -> Res
 
 #[test]
 fn a_batch_is_paired_with_the_first_within_reach(rt: HostRuntime) -> Result<(), Fail> {
-    for line in ROWS.lines().filter(|line| !line.starts_with("//")) {
-        let (row, wanted) = row_of(line)?;
+    let alloc = rt.alloc();
+    check_rows(ROWS, |row| {
         let (a, b) = row.split_once('|').unwrap_or((row, ""));
-        let found = matched(
-            rt.alloc(),
-            batches_of(rt.alloc(), a)?,
-            batches_of(rt.alloc(), b)?,
-        )?;
-        assert!(rt; found.as_str() == wanted, "{line}: {found}");
-    }
-    Ok(())
+        matched(alloc, batches_of(alloc, a)?, batches_of(alloc, b)?)
+    })
 }

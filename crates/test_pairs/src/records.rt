@@ -10,7 +10,7 @@ use pcap_frames::RecordView;
 use std::alloc::Global;
 use std::collections::VecDeque;
 use std::test::Fail;
-use vectors_avtp::{bytes_of, row_of};
+use vectors_avtp::{bytes_of, check_rows};
 
 /// The records of A and the records of B. Each record comes after a number: the millisecond in which the record was
 /// captured. After `=>` is what happens, in order: `a` and `b` are records that were wanted, `-a` and `-b` are ends of
@@ -124,15 +124,9 @@ fn compared(
 
 #[test]
 fn each_capture_is_read_only_as_far_as_it_is_wanted(rt: HostRuntime) -> Result<(), Fail> {
-    for line in ROWS.lines().filter(|line| !line.starts_with("//")) {
-        let (row, wanted) = row_of(line)?;
+    let alloc = rt.alloc();
+    check_rows(ROWS, |row| {
         let (a, b) = row.split_once('|').unwrap_or((row, ""));
-        let found = compared(
-            rt.alloc(),
-            records_of(rt.alloc(), a)?,
-            records_of(rt.alloc(), b)?,
-        )?;
-        assert!(rt; found.as_str() == wanted, "{line}: {found}");
-    }
-    Ok(())
+        compared(alloc, records_of(alloc, a)?, records_of(alloc, b)?)
+    })
 }

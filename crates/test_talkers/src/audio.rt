@@ -1,6 +1,6 @@
 //! Packets of PCM.
 
-use crate::frames::{Row, check_rows};
+use crate::frames::{Row, check_sent};
 use crate::plans::Planned;
 use std::test::Fail;
 
@@ -114,5 +114,5 @@ const ROWS: [Row; 11] = [
 
 #[test]
 fn samples_are_sent_at_their_times(rt: HostRuntime) -> Result<(), Fail> {
-    check_rows(&rt, rt.alloc(), &ROWS)
+    check_sent(&rt, rt.alloc(), &ROWS)
 }

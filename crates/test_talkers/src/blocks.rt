@@ -1,6 +1,6 @@
 //! Packets of AM824.
 
-use crate::frames::{Row, check_rows};
+use crate::frames::{Row, check_sent};
 use crate::plans::Planned;
 use std::test::Fail;
 
@@ -126,5 +126,5 @@ const ROWS: [Row; 9] = [
 
 #[test]
 fn blocks_are_counted_and_stamped_by_the_interval(rt: HostRuntime) -> Result<(), Fail> {
-    check_rows(&rt, rt.alloc(), &ROWS)
+    check_sent(&rt, rt.alloc(), &ROWS)
 }

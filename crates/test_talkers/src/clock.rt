@@ -1,6 +1,6 @@
 //! Packets of a media clock and of its stream.
 
-use crate::frames::{Row, check_rows};
+use crate::frames::{Row, check_sent};
 use crate::plans::Planned;
 use std::test::Fail;
 
@@ -69,5 +69,5 @@ const ROWS: [Row; 5] = [
 
 #[test]
 fn a_clock_is_sent_beside_its_stream(rt: HostRuntime) -> Result<(), Fail> {
-    check_rows(&rt, rt.alloc(), &ROWS)
+    check_sent(&rt, rt.alloc(), &ROWS)
 }

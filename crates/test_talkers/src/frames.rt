@@ -152,7 +152,7 @@ fn check_row(rt: &impl Abort, alloc: Global, row: &Row) -> Result<(), Fail> {
 }
 
 /// Checks, for each row, that the frames of the row's plan are the frames that the row lists.
-pub fn check_rows(rt: &impl Abort, alloc: Global, rows: &[Row]) -> Result<(), Fail> {
+pub fn check_sent(rt: &impl Abort, alloc: Global, rows: &[Row]) -> Result<(), Fail> {
     for row in rows {
         check_row(rt, alloc, row)?;
     }

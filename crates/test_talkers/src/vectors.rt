@@ -4,7 +4,7 @@ use crate::frames::{begin, frames_of};
 use crate::plans::Planned;
 use std::alloc::Global;
 use std::test::Fail;
-use vectors_avtp::vector;
+use vectors_avtp::bytes_of;
 
 /// The bytes of the first sent frame, from byte `from` on.
 fn first_frame(
@@ -20,21 +20,27 @@ fn first_frame(
     Ok(Vec::from_slice(alloc, bytes)?)
 }
 
+/// Plans, the input of each, and what is sent first: the frame, or its bytes from an offset on.
+const SENT: [(Planned, &str, usize, &str); 4] = [
+    (Planned::Pcm, SAMPLES, 0, "frame"),
+    (Planned::Blocks, BLOCKS, 18, "iec"),
+    (Planned::Video, "00000001 6742000a", 18, "h264"),
+    (Planned::Clocked, SAMPLES, 18, "crf"),
+];
+
+const SAMPLES: &str = "0001ffff 0002fffe 0003fffd 0004fffc 0005fffb 0006fffa";
+
+/// Six data blocks of two silent channels.
+const BLOCKS: &str =
+    "4000000040000000 4000000040000000 4000000040000000 4000000040000000 4000000040000000 4000000040000000";
+
 #[test]
 fn the_vectors_are_sent(rt: HostRuntime) -> Result<(), Fail> {
     let alloc = rt.alloc();
-    let one = vector(alloc, 1)?;
-    let samples = one.get(82..).ok_or("a short vector")?;
-    let frame = first_frame(alloc, Planned::Pcm, samples, 0)?;
-    assert!(rt; Some(frame.as_slice()) == one.get(40..), "{frame:?}");
-    let two = vector(alloc, 2)?;
-    let blocks = two.get(32..).ok_or("a short vector")?;
-    let packet = first_frame(alloc, Planned::Blocks, blocks, 18)?;
-    assert_eq!(rt; packet.as_slice(), two.as_slice());
-    let unit = [0, 0, 0, 1, 0x67, 0x42, 0x00, 0x0a];
-    let packet = first_frame(alloc, Planned::Video, &unit, 18)?;
-    assert_eq!(rt; packet.as_slice(), vector(alloc, 3)?.as_slice());
-    let packet = first_frame(alloc, Planned::Clocked, samples, 18)?;
-    assert_eq!(rt; packet.as_slice(), vector(alloc, 4)?.as_slice());
+    for (planned, input, from, vector) in SENT {
+        let sent = first_frame(alloc, planned, &bytes_of(alloc, input)?, from)?;
+        let wanted = bytes_of(alloc, vector)?;
+        assert!(rt; sent.as_slice() == wanted.as_slice(), "{vector}: {sent:?}");
+    }
     Ok(())
 }

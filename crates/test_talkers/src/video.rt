@@ -1,8 +1,10 @@
 //! Packets of H.264.
 
-use crate::frames::{Input, Row, begin, check_rows, frames_of};
+use crate::frames::{Input, Row, begin, check_sent, frames_of};
 use crate::plans::Planned;
+use std::alloc::Global;
 use std::test::Fail;
+use vectors_avtp::{bytes_of, check_rows};
 
 /// A unit of 3,000 bytes.
 const LONG: Input = (&[0, 0, 0, 1, 0x65], &[0xff], 2_999);
@@ -69,54 +71,50 @@ const ROWS: [Row; 3] = [
 
 #[test]
 fn units_are_sent_whole_or_in_fragments(rt: HostRuntime) -> Result<(), Fail> {
-    check_rows(&rt, rt.alloc(), &ROWS)
+    check_sent(&rt, rt.alloc(), &ROWS)
 }
 
-/// Units of two bytes, and for each unit, the number of its access unit, counted from 1.
-const ACCESS: [(&[u16], &[i64]); 8] = [
-    // parameter sets and a picture, then the next picture
-    (&[0x6742, 0x68ce, 0x6588, 0x419a], &[1, 1, 1, 2]),
-    // two slices of each picture
-    (&[0x6588, 0x6508, 0x419a, 0x411a], &[1, 1, 2, 2]),
-    // units before a picture belong to its access unit
-    (
-        &[0x419a, 0x0605, 0x419a, 0x0910, 0x6742, 0x6588],
-        &[1, 2, 2, 3, 3, 3],
-    ),
-    (&[0x419a, 0x0e80, 0x419a, 0x1280, 0x419a], &[1, 2, 2, 3, 3]),
-    // units that can follow a picture in its access unit
-    (
-        &[0x419a, 0x0a80, 0x0b80, 0x0cff, 0x0d80, 0x1380],
-        &[1, 1, 1, 1, 1, 1],
-    ),
-    // slices in data partitions
-    (&[0x4280, 0x4380, 0x4480, 0x4280, 0x4380], &[1, 1, 1, 2, 2]),
-    // first slices of pictures, with types in any order
-    (&[0x419a, 0x6588, 0x4288], &[1, 2, 3]),
-    // no access unit begins before the first slice
-    (&[0x0605, 0x0910, 0x0e80, 0x6588, 0x0910], &[1, 1, 1, 1, 2]),
-];
+/// NAL units of two bytes. What follows has a number for each unit: that of its access unit, counted from 1, with a dot if
+/// the unit's packet has the marker.
+const ACCESS: &str = "\
+// parameter sets and a picture, then the next picture
+6742 68ce 6588 419a => 1 1 1. 2.
+// two slices of each picture
+6588 6508 419a 411a => 1 1. 2 2.
+// units before a picture belong to its access unit
+419a 0605 419a 0910 6742 6588 => 1. 2 2. 3 3 3.
+419a 0e80 419a 1280 419a => 1. 2 2. 3 3.
+// units that can follow a picture in its access unit
+419a 0a80 0b80 0cff 0d80 1380 => 1 1 1 1 1 1.
+// slices in data partitions
+4280 4380 4480 4280 4380 => 1 1 1. 2 2.
+// first slices of pictures, with types in any order
+419a 6588 4288 => 1. 2. 3.
+// no access unit begins before the first slice
+0605 0910 0e80 6588 0910 => 1 1 1 1. 2.";
 
-/// Access unit 1 is sent at 1 s. Each later access unit is sent 1 s after the access unit before it. The last packet of
-/// each access unit has the marker.
+/// The access unit of each unit, by the time at which it is sent: access unit 1 is sent at 1 s, and each later access
+/// unit 1 s after the access unit before it. The last packet of an access unit has the marker.
+fn access_units(alloc: Global, units: &str) -> Result<String, Fail> {
+    let in_stream = format!(in alloc; " {units}")?.replace(alloc, " ", " 000001 ")?;
+    let input = bytes_of(alloc, in_stream.as_str())?;
+    let mut talker = begin(alloc, Planned::Slow.plan(), &input)?;
+    let frames = frames_of(alloc, &mut talker)?;
+    let mut text = String::new(alloc);
+    for frame in frames.as_slice() {
+        let number = frame.arrival / 1_000_000_000;
+        let dot = match frame.bytes.get(40) {
+            Some(0x30) => ".",
+            Some(0x20) => "",
+            _ => "?",
+        };
+        text.push_str(format!(in alloc; "{number}{dot} ")?.as_str())?;
+    }
+    Ok(text)
+}
+
 #[test]
 fn a_picture_begins_an_access_unit(rt: HostRuntime) -> Result<(), Fail> {
-    for row in &ACCESS {
-        let mut input = Vec::new(rt.alloc());
-        for unit in row.0 {
-            input.extend_from_slice(&[0, 0, 1])?;
-            input.extend_from_slice(&unit.to_be_bytes())?;
-        }
-        let mut talker = begin(rt.alloc(), Planned::Slow.plan(), &input)?;
-        let frames = frames_of(rt.alloc(), &mut talker)?;
-        assert_eq!(rt; frames.len(), row.1.len(), "{:?}", row.0);
-        for (place, frame) in frames.iter().enumerate() {
-            let number = frame.arrival / 1_000_000_000;
-            assert_eq!(rt; row.1.get(place), Some(&number), "{:?}", row.0);
-            let is_last = row.1.get(place + 1) != Some(&number);
-            let bits = if is_last { 0x30 } else { 0x20 };
-            assert_eq!(rt; frame.bytes.get(40), Some(&bits), "{:?}", row.0);
-        }
-    }
-    Ok(())
+    let alloc = rt.alloc();
+    check_rows(ACCESS, |units| access_units(alloc, units))
 }

@@ -134,15 +134,25 @@ const LONGEST: Findings = Findings {
     untracked: true,
 };
 
-fn print_packets(text: &mut Text, out: &mut MemorySink) -> Result<(), Failed> {
+fn print_pcm(text: &mut Text, out: &mut MemorySink) -> Result<(), Failed> {
     text.frame_aaf(out, 1, 1_000_000_000, &DENSE)?;
     for format in [AafFormat::Float32, AafFormat::Int32, AafFormat::Int24] {
         text.frame_aaf(out, 2, 0, &AafView { format, ..SPARSE })?;
     }
-    text.frame_iec(out, u64::MAX, i64::MIN, &IEC)?;
+    Ok(())
+}
+
+fn print_video(text: &mut Text, out: &mut MemorySink) -> Result<(), Failed> {
     for part in PARTS {
         text.frame_h264(out, u64::MAX, i64::MIN, &CvfView { part, ..H264 })?;
     }
+    Ok(())
+}
+
+fn print_packets(text: &mut Text, out: &mut MemorySink) -> Result<(), Failed> {
+    print_pcm(text, out)?;
+    text.frame_iec(out, u64::MAX, i64::MIN, &IEC)?;
+    print_video(text, out)?;
     text.frame_crf(out, u64::MAX, i64::MIN, &CRF)
 }
 

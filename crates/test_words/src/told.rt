@@ -1,8 +1,8 @@
 //! A command as one line of text.
 
 use avtp_words::{
-    Agree, Command, Crf, Gateway, GatewayFormat, Listen, ListenerOptions, Offence, Silence, Talk,
-    parse,
+    Agree, Command, Crf, DeviceFile, Gateway, GatewayFormat, Listen, ListenerOptions, Offence,
+    Silence, Talk, parse,
 };
 use std::alloc::{AllocError, Global};
 use std::fmt::Display;
@@ -69,6 +69,10 @@ fn add<T: Display + PartialEq + Copy>(
     write!(text, " {option} {value}")
 }
 
+fn add_id(text: &mut String, option: &str, id: u64) -> Result<(), AllocError> {
+    write!(text, " {option} {id:016x}")
+}
+
 fn add_name(text: &mut String, name: &str) -> Result<(), AllocError> {
     write!(text, " ({name})")
 }
@@ -93,7 +97,7 @@ fn add_listener(
     add(text, "look", listener.look, 0)?;
     add(text, "lead", listener.lead, 2_000_000)?;
     if let Some(clock) = listener.clock {
-        write!(text, " clock {clock:016x}")?;
+        add_id(text, "clock", clock)?;
     }
     add(text, "shift", listener.shift, 0)
 }
@@ -113,7 +117,7 @@ fn add_gateway(text: &mut String, asked: &Gateway<'_>) -> Result<(), AllocError>
     add_listener(text, "gateway", &asked.listener)?;
     write!(text, " to {to}")?;
     if asked.id != asked.listener.stream {
-        write!(text, " id {:016x}", asked.id)?;
+        add_id(text, "id", asked.id)?;
     }
     add_name(text, asked.input)?;
     add_name(text, asked.output)
@@ -126,21 +130,25 @@ fn add_listen(text: &mut String, asked: &Listen<'_>) -> Result<(), AllocError> {
     add_names(text, asked.files)
 }
 
-/// Adds the files that are written, each with the position of its name among the words, counted from 0.
+/// Adds the files that are written.
 fn add_devices(text: &mut String, asked: &Listen<'_>) -> Result<(), AllocError> {
     if let Some(raw) = asked.raw {
-        let silence = match raw.silence {
-            Silence::Zero => "zero",
-            Silence::Am824 => "am824",
+        let option = match raw.silence {
+            Silence::Zero => "zero raw",
+            Silence::Am824 => "am824 raw",
         };
-        write!(text, " {silence} raw {}", raw.file.place)?;
-        add_name(text, raw.file.name)?;
+        add_file(text, option, raw.file)?;
     }
-    if let Some(file) = asked.annexb {
-        write!(text, " annexb {}", file.place)?;
-        add_name(text, file.name)?;
+    match asked.annexb {
+        Some(file) => add_file(text, "annexb", file),
+        None => Ok(()),
     }
-    Ok(())
+}
+
+/// Adds a file that is written, with the position of its name among the words, counted from 0.
+fn add_file(text: &mut String, option: &str, file: DeviceFile<'_>) -> Result<(), AllocError> {
+    write!(text, " {option} {}", file.place)?;
+    add_name(text, file.name)
 }
 
 fn add_talk(text: &mut String, asked: &Talk<'_>) -> Result<(), AllocError> {
@@ -149,7 +157,7 @@ fn add_talk(text: &mut String, asked: &Talk<'_>) -> Result<(), AllocError> {
     add(text, "channels", asked.channels, 2)?;
     add(text, "count", asked.count, 6)?;
     if asked.id != 0x0200_0000_0001_0001 {
-        write!(text, " id {:016x}", asked.id)?;
+        add_id(text, "id", asked.id)?;
     }
     add(text, "start", asked.start, 1_000_000_000)?;
     add(text, "lead", asked.lead, 2_000_000)?;
@@ -166,7 +174,7 @@ fn add_talk(text: &mut String, asked: &Talk<'_>) -> Result<(), AllocError> {
 
 /// Adds the media clock. The clock's default rate is the stream's rate.
 fn add_crf(text: &mut String, crf: &Crf, rate: u32) -> Result<(), AllocError> {
-    write!(text, " crf {:016x}", crf.id)?;
+    add_id(text, "crf", crf.id)?;
     add(text, "crf-rate", crf.rate, rate)?;
     add(text, "pull", crf.pull, 0)?;
     add(text, "interval", crf.interval, 96)?;

@@ -9,5 +9,5 @@ mod vectors;
 
 pub use changes::changed;
 pub use draws::Draws;
-pub use rows::{bytes_of, refusal_text, row_of};
+pub use rows::{bytes_of, check_rows, refusal_text, row_of, told_when_cut};
 pub use vectors::vector;

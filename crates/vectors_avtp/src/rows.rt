@@ -58,6 +58,43 @@ pub fn row_of(line: &str) -> Result<(&str, &str), Fail> {
     Ok((row.trim(), wanted.trim()))
 }
 
+/// Checks each line of a table: what `found_of` finds for its left side must be the text of its right side. A line that
+/// begins with `//` is a comment.
+pub fn check_rows<F: Fn(&str) -> Result<String, Fail>>(rows: &str, found_of: F) -> Result<(), Fail>
+    requires { F.IsAlwaysCallable found_of }
+{
+    for line in rows.lines() {
+        if !line.starts_with("//") {
+            let (row, wanted) = row_of(line)?;
+            let found = found_of(row)?;
+            if found.trim() != wanted {
+                return Err(Fail::new(format_args!("found {found}, in {line}")));
+            }
+        }
+    }
+    Ok(())
+}
+
+/// The results for bytes that are cut off: each length at which the result changes, and the new result.
+pub fn told_when_cut<F: Fn(&[u8]) -> Result<String, Fail>>(
+    alloc: Global,
+    bytes: &[u8],
+    told: F,
+) -> Result<String, Fail>
+    requires { F.IsAlwaysCallable told }
+{
+    let mut all = String::new(alloc);
+    let mut last = String::new(alloc);
+    for len in 0..=bytes.len() {
+        let now = told(bytes.get(..len).unwrap_or(&[]))?;
+        if now != last {
+            all.push_str(format!(in alloc; "{len}: {now}; ")?.as_str())?;
+        }
+        last = now;
+    }
+    Ok(all)
+}
+
 /// A refusal as rows write it: `stream_data_length at 20`, with ` short` if the field is cut off.
 pub fn refusal_text(alloc: Global, refusal: Refusal) -> Result<String, AllocError> {
     let short = if refusal.short { " short" } else { "" };

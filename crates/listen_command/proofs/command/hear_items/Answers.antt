@@ -7,7 +7,7 @@ use Rattle.capture_hearing.specs.declared.hearing.Stage.{Stage}
 use Rattle.listen_command.specs.state.Listen.{HearsItems}
 use Rattle.listen_command.proofs.command.hear_items.Goals as goal
 
--- what holds of the parts that the two sides had holds of the function's own
+-- a fact about what the two sides hold is also one about what the function was given
 of_parts : {D F S T : Type 0} {d d' : D} {f f' : F} {s s' : Sourcing} {l l' : ListenState} {g g' : Stage} {o o' : S} {t t' : T} (P : D → F → Sourcing → ListenState → Stage → S → T → Type 0)
     → d ≡ d' → f ≡ f' → s ≡ s' → l ≡ l' → g ≡ g' → o ≡ o' → t ≡ t' → P d f s l g o t → P d' f' s' l' g' o' t'
 of_parts {d = d} {d'} {f} {f'} {s} {s'} {l} {l'} {g} {g'} {o} {o'} {t} {t'} P is-d is-f is-s is-l is-g is-o is-t p =

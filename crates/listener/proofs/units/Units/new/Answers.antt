@@ -1,4 +1,4 @@
-use Rattle.std.proofs.Common.{[], arith, rules}
+use Rattle.std.proofs.Common.{[], arith}
 use Rattle.std.proofs.lemmas.List.Elements.{All-nil}
 use Rattle.listener.specs.state.Gathering.{IsTimelyEvent}
 use Rattle.listener.proofs.Gathered.{begun_left, none_lost}
@@ -12,4 +12,4 @@ invariant_of-result c = (
 )
 
 pub returns : goal.returns
-returns c = record { stands = search rules; none = begun_left _ c.in_ok-new.ensures }
+returns c = record { stands = record { assembly = c.in_ok-new.ensures }; none = begun_left _ c.in_ok-new.ensures }
