@@ -36,11 +36,23 @@ pub fn hear<C: Clock>(clock: &C, alloc: Global, streams: u32, packets: u32) -> O
     if capture.len() > MOST {
         return None;
     }
-    let Ok(mut listener) = Listener::begin(alloc, PLAN) else {
-        return None;
-    };
+    let mut listener = Listener::begin(alloc, PLAN).ok()?;
+    time_hearing(clock, alloc, &mut listener, &capture)
+}
+
+/// Measures how long a new listener takes for a capture, and counts the batches that are presented.
+fn time_hearing<C: Clock>(
+    clock: &C,
+    alloc: Global,
+    listener: &mut Listener,
+    capture: &[u8],
+) -> Option<Timed>
+    requires open { is_ended listener.old ≡ false }
+    requires ready { IsReady listener.old }
+    requires bounded { taken listener.old.reader + length capture.now ≤ 2 ^ 62 }
+{
     let start = Instant::now(clock).ok()?;
-    let presented = hear_all(alloc, &mut listener, &capture).ok()?;
+    let presented = hear_all(alloc, listener, capture).ok()?;
     let nanoseconds = u64::try_from(start.elapsed(clock).ok()?.as_nanos()).ok()?;
     Some(Timed {
         count: presented,

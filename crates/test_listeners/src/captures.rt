@@ -51,7 +51,8 @@ pub fn after<'a>(words: &'a str, name: &str) -> Option<&'a str> {
 fn put(bytes: &mut Vec<u8>, arrival: u64, frame: &[u8]) -> Result<(), NoMemory> {
     let size = frame.len() as u64;
     for number in [arrival / SECOND, arrival % SECOND, size, size] {
-        bytes.extend_from_slice(&(number as u32).to_le_bytes())?;
+        let [b0, b1, b2, b3, _, _, _, _] = number.to_le_bytes();
+        bytes.extend_from_slice(&[b0, b1, b2, b3])?;
     }
     bytes.extend_from_slice(frame)?;
     Ok(())

@@ -84,18 +84,22 @@ fn fault_of(
     }
 }
 
-/// What is heard of a capture in two pieces, cut at `cut`: the first item that is shown, the counts, and the faults that
-/// `feed` and `end` return after the first record.
-fn heard_in_pieces(
+/// What a listener hears of a capture in two pieces, cut at `cut`: the first item that is shown, the counts, and the
+/// faults that `feed` and `end` return after the first record.
+fn hear_in_pieces(
     alloc: Global,
+    listener: &mut Listener,
     bytes: &[u8],
     cut: usize,
-) -> Result<(String, Counts, [Option<ListenFault>; 2]), Fail> {
-    let mut listener = Listener::begin(alloc, plan_of(1, 24, None))?;
-    let fault = fault_of(alloc, &mut listener, bytes, cut)?;
-    let (at_end, shown, counts) = end_of(&mut listener);
+) -> Result<String, Fail>
+    requires open { is_ended listener.old ≡ false }
+    requires none { taken listener.old.reader ≡ 0 }
+{
+    let fault = fault_of(alloc, listener, bytes, cut)?;
+    let (at_end, shown, counts) = end_of(listener);
     let line = line_of(alloc, &shown.ok_or("nothing is shown")?)?;
-    Ok((line, counts, [Some(fault), at_end]))
+    let faults = [Some(fault), at_end];
+    Ok(format!(in alloc; "{line} {counts:?} {faults:?}")?)
 }
 
 /// What is heard of the capture, wherever it is cut.
@@ -107,8 +111,8 @@ const PIECES: &str =
 fn a_capture_may_be_cut_anywhere(rt: HostRuntime) -> Result<(), Fail> {
     let bytes = bytes_of(rt.alloc(), "pcap len=122 114=01 116=04")?;
     for cut in 0..106usize {
-        let (line, counts, faults) = heard_in_pieces(rt.alloc(), &bytes, cut)?;
-        let found = format!(in rt.alloc(); "{line} {counts:?} {faults:?}")?;
+        let mut listener = Listener::begin(rt.alloc(), plan_of(1, 24, None))?;
+        let found = hear_in_pieces(rt.alloc(), &mut listener, &bytes, cut)?;
         assert!(rt; found.as_str() == PIECES, "cut at {cut}: {found}");
     }
     Ok(())
