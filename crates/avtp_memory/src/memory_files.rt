@@ -11,7 +11,7 @@ use avtp_files::slots::Slots;
 use std::alloc::Global;
 
 /// Files by name, and open files by slot. When a file is made, it gets memory for `room` bytes.
-#[derive(Debug, Drop)]
+#[derive(Debug)]
 pub struct MemoryFiles {
     alloc: Global,
     files: NamedFiles,
@@ -19,6 +19,18 @@ pub struct MemoryFiles {
     room: usize,
     ghost named: { AreNamed files.entries.items live.entries.items },
     ghost roomy: { HaveRoom room files.entries.items live.entries.items },
+}
+
+// One call for the proofs of all owners, instead of the drops of the parts at each of their ends.
+impl Drop for MemoryFiles {
+    fn drop(self) {
+        let MemoryFiles {
+            alloc: _,
+            files: _,
+            live: _,
+            room: _,
+        } = self;
+    }
 }
 
 impl MemoryFiles {

@@ -11,7 +11,7 @@ use std::alloc::Global;
 
 /// A shelf that keeps its files in memory. All calls except `close_file` are numbered from 1, and the calls whose
 /// numbers were chosen in `over` fail.
-#[derive(Debug, Drop)]
+#[derive(Debug)]
 pub struct MemoryShelf {
     held: MemoryFiles,
     asked: AskedNames,
@@ -22,6 +22,21 @@ pub struct MemoryShelf {
     last_fault: Option<FaultPlace>,
     writing_faults: u64,
     ghost some: { 0 < most },
+}
+
+// One call for the proofs of all owners, instead of the drops of the parts at each of their ends.
+impl Drop for MemoryShelf {
+    fn drop(self) {
+        let MemoryShelf {
+            held: _,
+            asked: _,
+            calls: _,
+            most: _,
+            reading_faults: _,
+            last_fault: _,
+            writing_faults: _,
+        } = self;
+    }
 }
 
 impl MemoryShelf {

@@ -9,11 +9,22 @@ use std::alloc::Global;
 /// A shelf that keeps as much of each written file as fits its room, and takes all further bytes without keeping them.
 /// The shelf shows its files as long as it has kept all written bytes. Once the shelf has dropped some bytes, it never
 /// shows its files again.
-#[derive(Debug, Drop)]
+#[derive(Debug)]
 pub struct QuietShelf {
     held: MemoryFiles,
     asked: AskedNames,
     all: bool,
+}
+
+// One call for the proofs of all owners, instead of the drops of the parts at each of their ends.
+impl Drop for QuietShelf {
+    fn drop(self) {
+        let QuietShelf {
+            held: _,
+            asked: _,
+            all: _,
+        } = self;
+    }
 }
 
 impl QuietShelf {

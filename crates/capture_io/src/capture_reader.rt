@@ -33,13 +33,24 @@ const FRONT: usize = 4;
 
 /// Reads a capture in either layout, with the same calls as [`Reader`]. The first four bytes show the layout, and are
 /// held back until all four have arrived.
-#[derive(Drop)]
 pub struct CaptureReader {
     format: Option<Format>,
     /// The bytes that arrived before the layout was known.
     front: Vec<u8>,
     classic: Reader,
     ng: Ng,
+}
+
+// One call for the proofs of all owners, instead of the drops of the parts at each of their ends.
+impl Drop for CaptureReader {
+    fn drop(self) {
+        let CaptureReader {
+            format: _,
+            front: _,
+            classic: _,
+            ng: _,
+        } = self;
+    }
 }
 
 impl Model for CaptureReader {

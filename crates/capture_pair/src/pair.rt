@@ -24,11 +24,21 @@ use std::marker::Model;
 ///
 /// A `RecordPair` returns the same differences for the records of both captures. Items that a listener flags are
 /// dropped, and do not end a side. Each capture must have at most 2^62 bytes.
-#[derive(Drop)]
 pub struct Pair {
     a: ByteSource,
     b: ByteSource,
     matching: Matching,
+}
+
+// One call for the proofs of all owners, instead of the drops of the parts at each of their ends.
+impl Drop for Pair {
+    fn drop(self) {
+        let Pair {
+            a: _,
+            b: _,
+            matching: _,
+        } = self;
+    }
 }
 
 impl Model for Pair {

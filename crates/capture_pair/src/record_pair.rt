@@ -26,11 +26,21 @@ use std::marker::Model;
 /// A difference is returned as soon as both batches of its pair are in the known part of the merged list. Items that a
 /// listener flags are dropped, and do not end a side. Memory is reserved when the pair is made. The samples of each
 /// packet and each whole unit are copied once.
-#[derive(Drop)]
 pub struct RecordPair {
     a: RecordSource,
     b: RecordSource,
     matching: Matching,
+}
+
+// One call for the proofs of all owners, instead of the drops of the parts at each of their ends.
+impl Drop for RecordPair {
+    fn drop(self) {
+        let RecordPair {
+            a: _,
+            b: _,
+            matching: _,
+        } = self;
+    }
 }
 
 impl Model for RecordPair {

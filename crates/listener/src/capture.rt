@@ -5,6 +5,7 @@ ghost use Rattle.packet_journal.specs.Packets.{PacketJournal};
 ghost use Rattle.pcap_frames.specs.Capture.{whole_records};
 ghost use Rattle.pcap_frames.specs.Reading.{taken};
 ghost use Rattle.sample_schedule.specs.Limits.{IsPlan};
+ghost use Rattle.listener.specs.Feeding.{Begins};
 ghost use Rattle.listener.specs.state.Feeding.{CanFeed, FeedsPiece, GivesAll, Stops};
 ghost use Rattle.listener.specs.Headline.{KeepsHeadline};
 ghost use Rattle.listener.specs.Heard.{heard_of, schedule_plan};
@@ -64,6 +65,23 @@ fn end(listener: &mut Listener) -> Option<Refusal>
     }
 }
 
+/// What a new listener shows of a whole capture.
+fn hear(alloc: Global, listener: &mut Listener, bytes: &[u8]) -> Result<Heard, NoMemory>
+    requires begun { Begins listener.old.listener.plan listener.old }
+    requires bounded { length bytes.now ≤ 2 ^ 62 }
+    ensures { IfOk result (λ heard. heard ≡ heard_of listener.old.listener.plan bytes.now) }
+{
+    let mut list = Vec::new(alloc);
+    feed_piece(alloc, listener, bytes, &mut list)?;
+    let refused = end(listener);
+    give_all(listener, &mut list)?;
+    Ok(Heard {
+        shown: ShownList::over(list),
+        counts: listener.counts(),
+        refused,
+    })
+}
+
 /// What a listener shows of a whole capture: the schedule of the stream's packets, the counts, and the first refusal.
 /// Only the whole records before the first refusal are heard. If a `Listener` is fed the bytes and then ended, the
 /// listener shows the same.
@@ -94,13 +112,5 @@ pub fn whole(alloc: Global, plan: &ListenPlan, bytes: &[u8]) -> Result<Heard, No
     ensures headline { IfOk result (λ heard. (shift : ℤ) (p : PacketJournal) → HearsTalker shift p plan.now (whole_records bytes.now) → KeepsHeadline shift p plan.now (whole_records bytes.now) heard.shown) }
 {
     let mut listener = Listener::begin(alloc, *plan)?;
-    let mut list = Vec::new(alloc);
-    feed_piece(alloc, &mut listener, bytes, &mut list)?;
-    let refused = end(&mut listener);
-    give_all(&mut listener, &mut list)?;
-    Ok(Heard {
-        shown: ShownList::over(list),
-        counts: listener.counts(),
-        refused,
-    })
+    hear(alloc, &mut listener, bytes)
 }

@@ -39,7 +39,6 @@ pub enum ListenFault {
 /// more bytes. Memory for the listener's state is reserved when the listener is made. Later each packet's samples are
 /// copied once, into the batch that is shown. If a record is cut between two pieces, its bytes are first copied one
 /// more time.
-#[derive(Drop)]
 pub struct Listener {
     reader: Reader,
     listener: RecordListener,
@@ -47,6 +46,18 @@ pub struct Listener {
     /// tell whether an item is due. `counts` leaves this item out.
     next: Option<Shown>,
     out_of_memory: bool,
+}
+
+// One call for the proofs of all owners, instead of the drops of the parts at each of their ends.
+impl Drop for Listener {
+    fn drop(self) {
+        let Listener {
+            reader: _,
+            listener: _,
+            next: _,
+            out_of_memory: _,
+        } = self;
+    }
 }
 
 impl Model for Listener {

@@ -34,7 +34,6 @@ use std::marker::Model;
 /// yield as many as 4,097 items, because it can end a unit of H.264 that is not whole. `next_out` judges the queued
 /// items one after another. Memory for the listener's state is reserved when the listener is made. Later each packet's
 /// samples, and each whole unit, are copied once, into the batch that is shown.
-#[derive(Drop)]
 pub struct RecordListener {
     plan: ListenPlan,
     units: Units,
@@ -48,6 +47,22 @@ pub struct RecordListener {
     idle: bool,
     counts: Counts,
     pool: BufferPool,
+}
+
+// One call for the proofs of all owners, instead of the drops of the parts at each of their ends.
+impl Drop for RecordListener {
+    fn drop(self) {
+        let RecordListener {
+            plan: _,
+            units: _,
+            judge: _,
+            ended: _,
+            closed: _,
+            idle: _,
+            counts: _,
+            pool: _,
+        } = self;
+    }
 }
 
 impl Model for RecordListener {
@@ -71,9 +86,9 @@ impl RecordListener {
         requires plan { IsPlan (schedule_plan plan) }
         ensures { IfOk result (Begins plan) }
     {
+        let pool = BufferPool::new(alloc)?;
         let units = Units::new(alloc)?;
         let judge = Judge::begin(alloc, plan.schedule_plan())?;
-        let pool = BufferPool::new(alloc)?;
         Ok(RecordListener {
             plan,
             units,

@@ -29,7 +29,6 @@ use time_unfold::unfold;
 /// Puts the units of a stream together, and queues the items of the last delivery. The queued items are the fragments
 /// that were given up because of the last delivery, and then the delivery's own item. Memory for the fragments is
 /// reserved at the start.
-#[derive(Drop)]
 pub struct Units {
     assembler: Assembler,
     /// For the fragments that were given up most recently: why they were given up, how many there are, and how many of
@@ -39,6 +38,19 @@ pub struct Units {
     taken: u32,
     /// The last delivery's own item.
     own: Option<Item>,
+}
+
+// One call for the proofs of all owners, instead of the drops of the parts at each of their ends.
+impl Drop for Units {
+    fn drop(self) {
+        let Units {
+            assembler: _,
+            why: _,
+            lost: _,
+            taken: _,
+            own: _,
+        } = self;
+    }
 }
 
 impl Model for Units {

@@ -22,7 +22,6 @@ use std::marker::Model;
 ///
 /// Memory is reserved when the matching is made. A batch is dropped when it is paired. A batch is also dropped when
 /// none of the 512 batches after it was its partner.
-#[derive(Drop)]
 pub struct Matching {
     next_a: Option<Timed>,
     next_b: Option<Timed>,
@@ -33,6 +32,22 @@ pub struct Matching {
     waiting_a: Waiting,
     waiting_b: Waiting,
     counts: PairCounts,
+}
+
+// One call for the proofs of all owners, instead of the drops of the parts at each of their ends.
+impl Drop for Matching {
+    fn drop(self) {
+        let Matching {
+            next_a: _,
+            next_b: _,
+            ended_a: _,
+            ended_b: _,
+            place: _,
+            waiting_a: _,
+            waiting_b: _,
+            counts: _,
+        } = self;
+    }
 }
 
 impl Model for Matching {

@@ -27,7 +27,6 @@ pub enum Round {
 
 /// A ring between a receiver and a presenter, and the item that was pulled but found no free slot. The pipe works in
 /// rounds. In each round, both sides take their turns, in two threads.
-#[derive(Drop)]
 pub struct Pipe {
     front: Front,
     back: Back,
@@ -37,6 +36,17 @@ pub struct Pipe {
     ghost pair: { IsPair front.producer back.consumer },
     ghost fifo: { received back.consumer ++ known_items back.consumer ≡ sent front.producer },
     ghost rings: { consumer_capacity back.consumer ≡ capacity },
+}
+
+// One call for the proofs of all owners, instead of the drops of the parts at each of their ends.
+impl Drop for Pipe {
+    fn drop(self) {
+        let Pipe {
+            front: _,
+            back: _,
+            capacity: _,
+        } = self;
+    }
 }
 
 impl Pipe {
