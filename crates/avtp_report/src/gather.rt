@@ -15,7 +15,6 @@ use stream_report::{
 pub const MOST_STREAMS: usize = 1024;
 
 /// The counts of all captures, which are read as if they were one capture.
-#[derive(Drop)]
 pub struct Report {
     alloc: Global,
     /// Whether pictures of the streams are wanted.
@@ -36,6 +35,24 @@ pub struct Report {
     first_arrival: Option<i64>,
     /// The time from the arrival of the first frame to the latest arrival of a frame, in nanoseconds.
     pub duration: u64,
+}
+
+// One call for the proofs of all owners, instead of the drops of the parts at each of their ends.
+impl Drop for Report {
+    fn drop(self) {
+        let Report {
+            alloc: _,
+            pictured: _,
+            places: _,
+            last: _,
+            followers: _,
+            streams: _,
+            others: _,
+            frames: _,
+            first_arrival: _,
+            duration: _,
+        } = self;
+    }
 }
 
 impl Report {

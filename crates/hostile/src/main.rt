@@ -18,7 +18,7 @@ use crate::bases::Bases;
 use crate::draws::Draws;
 use crate::grammar::pattern;
 use crate::trials::{Found, try_commands};
-use regex::Regex;
+use regex::{Matcher, Regex};
 use std::env;
 use std::process::ExitCode;
 use std::thread::Threads;
@@ -93,10 +93,21 @@ fn try_all<T: Threads + Sync>(
     let pattern = pattern(alloc).ok()?;
     let regex = Regex::new(alloc, pattern.as_str()).ok()?;
     let mut grammar = regex.matcher(alloc).ok()?;
+    try_each(rt, threads, &mut grammar, bases, asked)
+}
+
+/// Runs every command over each damaged capture, and compares its text with the grammar.
+fn try_each<T: Threads + Sync>(
+    rt: &HostRuntime,
+    threads: &T,
+    grammar: &mut Matcher<'_>,
+    bases: &Bases,
+    asked: Asked,
+) -> Option<u64> {
     let mut wrong: u64 = 0;
     for number in asked.first..asked.end() {
         let mut draws = Draws::of(asked.seed, number);
-        let found = try_commands(threads, alloc, &mut grammar, bases, &mut draws).ok()?;
+        let found = try_commands(threads, rt.alloc(), grammar, bases, &mut draws).ok()?;
         print_found(rt, asked.seed, number, &found)?;
         wrong = wrong.saturating_add(found.len() as u64);
     }
